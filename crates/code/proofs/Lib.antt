@@ -1,0 +1,7 @@
+pub mod Poly
+pub mod Generator
+pub mod Distance
+pub mod Division
+pub mod Shifted
+pub mod Search
+pub mod Theorems

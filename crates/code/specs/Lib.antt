@@ -1,0 +1,5 @@
+pub mod Poly
+pub mod Code
+pub mod Run
+pub mod Search
+pub mod Theorems
