@@ -1,0 +1,4 @@
+pub mod Ranges
+pub mod Search
+pub mod Write
+pub mod Promises

@@ -1,0 +1,126 @@
+-- What each entry on a block answers and leaves in its buffers, as equations that compute (clauses B4 to B10, E1 to E5). Refusal 1 goes
+-- before 2, and 2 before the rest. The verdict reads the cells and n, r, b, L only.
+use mathlib.Core.Bool.{Bool, true, false}
+use mathlib.Core.List.{List, [], _∷_, _++_}
+use Prim.Native.Nat.{ℕ}
+use lib.Dec.{eqb, ltb}
+use lib.ListN.{length, take, replicate}
+use Rattle.lists.specs.Choice.{pick, both}
+use Rattle.code.specs.Code.{generator, remainder}
+use Rattle.code.specs.Run.{shiftedRemainder, addedAt}
+use Rattle.code.specs.Search.{Best, extent, extents, scanned}
+use Rattle.block.specs.Profile.{inRange, messageLength}
+use Rattle.block.specs.declared.Profile.{Profile}
+use Rattle.block.specs.declared.Verdict.{Verdict}
+use Rattle.block.specs.declared.Verdict.the-variants as verdicts
+use Rattle.block.specs.declared.Written.{Written}
+use Rattle.block.specs.declared.Written.the-variants as writes
+use Rattle.block.specs.declared.Checked.{Checked}
+use Rattle.block.specs.declared.Checked.the-variants as checks
+
+-- ---- writing
+
+-- the r check cells of a message: what the message cells, with r zeros below them, leave when divided by the generator
+unfoldable pub checkCells : ℕ → ℕ → List ℕ → List ℕ
+checkCells b r m = remainder r (generator b r) (replicate r 0 ++ m)
+
+-- the written block: check cells in 0 to r − 1, the message in r to n − 1
+unfoldable pub encode : ℕ → ℕ → List ℕ → List ℕ
+encode b r m = checkCells b r m ++ m
+
+-- refusals 1 and 2 of an entry with two buffers, or what else it answers
+unfoldable pub refusing : {A : Type 0} → Profile → Bool → A → A → A → A
+refusing p fits one two rest = pick (inRange p) (pick fits rest two) one
+
+-- the writer's buffers have k and n bytes
+unfoldable pub writeFits : Profile → List ℕ → List ℕ → Bool
+writeFits p m out = both (eqb (length m) (messageLength p)) (eqb (length out) (p .n))
+
+unfoldable pub writeAnswer : Profile → List ℕ → List ℕ → Written
+writeAnswer p m out = refusing p (writeFits p m out) writes.BadProfile writes.WrongLength writes.Done
+
+unfoldable pub writeLeaves : Profile → List ℕ → List ℕ → List ℕ
+writeLeaves p m out = refusing p (writeFits p m out) out out (encode (p .b) (p .r) m)
+
+-- ---- checking
+
+-- all r cells of the remainder are zero
+unfoldable pub isClean : ℕ → ℕ → List ℕ → Bool
+isClean b r y = eqb (extent (remainder r (generator b r) y)) 0
+
+unfoldable pub checkAnswer : Profile → List ℕ → Checked
+checkAnswer p y =
+    refusing p (eqb (length y) (p .n)) checks.BadProfile checks.WrongLength (pick (isClean (p .b) (p .r) y) checks.Clean checks.NotClean)
+
+-- ---- correcting
+
+-- what the search found, as a verdict
+unfoldable pub decided : ℕ → Best → Verdict
+decided limit k = pick (ltb limit (k .size)) verdicts.Uncorrectable (pick (k .again) verdicts.Ambiguous (verdicts.Corrected (k .start) (k .size)))
+
+-- the verdict on a block of which R is the remainder
+unfoldable pub judged : Profile → List ℕ → Verdict
+judged p R =
+    pick (eqb (extent R) 0) (verdicts.Corrected 0 0)
+    (decided (p .limit) (scanned (extents (generator (p .b) (p .r)) R) (p .n) (p .limit) (p .n)))
+
+-- the verdict on the n cells y
+unfoldable pub verdict : Profile → List ℕ → Verdict
+verdict p y = judged p (remainder (p .r) (generator (p .b) (p .r)) y)
+
+-- what a verdict writes over the cells of out: the codeword, where there is one
+unfoldable pub filled : Profile → List ℕ → List ℕ → Verdict → List ℕ
+filled p y out (verdicts.Corrected s f) = addedAt s (take f (shiftedRemainder (p .b) (p .r) s y)) y
+filled p y out verdicts.BadProfile = out
+filled p y out verdicts.WrongLength = out
+filled p y out verdicts.Uncorrectable = out
+filled p y out verdicts.Ambiguous = out
+
+-- the codeword of a corrected block
+unfoldable pub corrected : Profile → List ℕ → List ℕ
+corrected p y = filled p y [] (verdict p y)
+
+-- both buffers of the corrector have n bytes
+unfoldable pub correctFits : Profile → List ℕ → List ℕ → Bool
+correctFits p y out = both (eqb (length y) (p .n)) (eqb (length out) (p .n))
+
+unfoldable pub correctAnswer : Profile → List ℕ → List ℕ → Verdict
+correctAnswer p y out = refusing p (correctFits p y out) verdicts.BadProfile verdicts.WrongLength (verdict p y)
+
+unfoldable pub correctLeaves : Profile → List ℕ → List ℕ → List ℕ
+correctLeaves p y out = filled p y out (correctAnswer p y out)
+
+-- ---- document 01's numbers (E5): the refusal's number, or 0; a lone block's refusal has place 0
+
+abbrev pub verdictNumber : Verdict → ℕ
+verdictNumber verdicts.BadProfile = 1
+verdictNumber verdicts.WrongLength = 2
+verdictNumber verdicts.Uncorrectable = 3
+verdictNumber verdicts.Ambiguous = 4
+verdictNumber (verdicts.Corrected s f) = 0
+
+-- "the result is s and f"; 0 and 0 beside a refusal
+abbrev pub verdictStart : Verdict → ℕ
+verdictStart (verdicts.Corrected s f) = s
+verdictStart verdicts.BadProfile = 0
+verdictStart verdicts.WrongLength = 0
+verdictStart verdicts.Uncorrectable = 0
+verdictStart verdicts.Ambiguous = 0
+
+abbrev pub verdictLength : Verdict → ℕ
+verdictLength (verdicts.Corrected s f) = f
+verdictLength verdicts.BadProfile = 0
+verdictLength verdicts.WrongLength = 0
+verdictLength verdicts.Uncorrectable = 0
+verdictLength verdicts.Ambiguous = 0
+
+abbrev pub writtenNumber : Written → ℕ
+writtenNumber writes.BadProfile = 1
+writtenNumber writes.WrongLength = 2
+writtenNumber writes.Done = 0
+
+abbrev pub checkedNumber : Checked → ℕ
+checkedNumber checks.BadProfile = 1
+checkedNumber checks.WrongLength = 2
+checkedNumber checks.Clean = 0
+checkedNumber checks.NotClean = 0

@@ -1,0 +1,39 @@
+-- The profile of document 01: the ranges of its five numbers (B1), and k and h (B2).
+use mathlib.Core.Bool.{Bool}
+use Prim.Native.Nat.{ℕ, _-_, _/_, _≤_, _<_}
+use lib.Dec.{leb, ltb}
+use Rattle.lists.specs.Choice.{both}
+use Rattle.block.specs.declared.Profile.{Profile}
+
+-- the table of ranges: least and most of each number
+pub record InRange (p : Profile) : Type 0 where
+  pub n-least : 3 ≤ p .n
+  pub n-most : p .n ≤ 255
+  pub r-least : 2 ≤ p .r
+  pub r-most : p .r ≤ 64
+  pub r-below : p .r < p .n
+  pub b-most : p .b ≤ 254
+  pub limit-below : p .limit < p .r
+  pub depth-least : 1 ≤ p .depth
+  pub depth-most : p .depth ≤ 16
+
+-- the same as a test
+unfoldable pub inRange : Profile → Bool
+inRange p =
+    both (leb 3 (p .n))
+    (both (leb (p .n) 255)
+    (both (leb 2 (p .r))
+    (both (leb (p .r) 64)
+    (both (ltb (p .r) (p .n))
+    (both (leb (p .b) 254)
+    (both (ltb (p .limit) (p .r))
+    (both (leb 1 (p .depth))
+    (leb (p .depth) 16))))))))
+
+-- "Write k = n−r"
+abbrev pub messageLength : Profile → ℕ
+messageLength p = p .n - p .r
+
+-- "and h = r/2 rounded down"
+abbrev pub half : Profile → ℕ
+half p = p .r / 2
