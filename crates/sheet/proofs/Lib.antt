@@ -1,3 +1,5 @@
 pub mod Lists
 pub mod Places
 pub mod Apart
+pub mod Verdicts
+pub mod Reader

@@ -102,10 +102,16 @@ module _ (p : Profile) (sheet scratch out : List ℕ) where
 
   -- every result on buffers of the right lengths
   pub record Results : Type 0 where
+    -- a block is refused, or each has a codeword
     pub some : ((d : ℕ) × (v : Verdict) × LowestRefused p sheet d v) ⊎ ((words : ℕ → List ℕ) × AllWords p sheet words)
-    pub refuses : (d : ℕ) (v : Verdict) → LowestRefused p sheet d v ↔ Refuses d v
-    pub accepts : (words : ℕ → List ℕ) → AllWords p sheet words ↔ Accepts words
+    -- S3
+    pub refused : (d : ℕ) (v : Verdict) → Refuses d v ↔ LowestRefused p sheet d v
+    -- S4
+    pub accepted : (changed : ℕ) → readAnswer p sheet scratch out ≡ Accepted changed → (words : ℕ → List ℕ) × AllWords p sheet words
+    pub accepts : (words : ℕ → List ℕ) → AllWords p sheet words → Accepts words
+    -- S5
     pub kept : (d : ℕ) (v : Verdict) → Refuses d v → readPayload p sheet scratch out ≡ out
+    -- S6
     pub cleared : readScratch p sheet scratch out ≡ replicate (length scratch) 0
 
 abbrev pub ReadResults : Type 0
