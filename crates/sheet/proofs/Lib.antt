@@ -3,3 +3,4 @@ pub mod Places
 pub mod Apart
 pub mod Verdicts
 pub mod Reader
+pub mod Theorems
