@@ -4,3 +4,5 @@ pub mod Apart
 pub mod Verdicts
 pub mod Reader
 pub mod Theorems
+pub mod Runs
+pub mod Promise

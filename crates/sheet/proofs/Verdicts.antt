@@ -51,7 +51,7 @@ differ-iff c d = (
 -- ---- one block
 
 -- a run of no cell reaches only what was read
-no-cell : (n r b : ℕ) (y : List ℕ) (s : ℕ) (c : List ℕ) → length y ≡ n → Reaches n r b y s 0 c → c ≡ y
+pub no-cell : (n r b : ℕ) (y : List ℕ) (s : ℕ) (c : List ℕ) → length y ≡ n → Reaches n r b y s 0 c → c ≡ y
 no-cell n r b y s c e h =
     ext-getD 0 c y (h .codeword .cells ∙ sym e)
     (λ i l. sym (h .agree i (subst (λ (m : ℕ). i < m) (h .codeword .cells) l) (⊎-elim (λ a. inl a) (λ a. inr (omega arith)) (lt-or-ge i s))))
