@@ -1,17 +1,21 @@
 -- Putting blocks and messages together and taking them apart again. Each law compares cell by cell, by the quotient and the remainder
 -- of a place.
 use mathlib.Core.Path.{_≡_, refl, sym, ap, ap₂, subst, _∙_}
-use mathlib.Core.List.{List, [], _∷_}
+use mathlib.Core.Logic.{_≢_, _⊎_, ⊎-elim}
+use mathlib.Core.List.{List, [], _∷_, _++_, append-nil}
 use Prim.Native.Nat.{ℕ, zero, suc, _+_, _*_, _-_, _/_, _%_, _<_, _≤_, zero-le, suc-le-suc}
-use native.Mathlib.Nat.{mul-comm}
+use native.Mathlib.Nat.{mul-comm, suc-mul, zero-mul, not-suc-le-zero, eq-or-lt-of-le}
+use native.Mathlib.Numerals.{add-one}
 use native.Mathlib.Omega.{arith}
-use lib.ListN.{length, getD, take, drop, length-drop}
-use lib.Seq.{length-take-le, getD-take, getD-drop, ext-getD}
+use lib.ListN.{length, getD, set, take, drop, length-drop, drop-of-length-le}
+use borrow.Rule.Slice.PartMut.{putMid}
+use lib.Seq.{length-take-le, getD-take, getD-drop, ext-getD, getD-set-same, getD-set-other}
 use Rattle.code.specs.Poly.{Bytes}
 use Rattle.code.proofs.Poly.{getD-byte, take-bytes, drop-bytes}
 use Rattle.sheet.specs.Sheet.{tab, interleave, blockOf, joined, messageOf}
+use Rattle.sheet.specs.Steps.{Laid}
 use Rattle.sheet.specs.Theorems.{Places, TakenApart}
-use Rattle.sheet.proofs.Lists.{length-tab, getD-tab, is-tab, same-tab}
+use Rattle.sheet.proofs.Lists.{length-tab, getD-tab, is-tab, same-tab, part-more}
 use Rattle.sheet.proofs.Places as at
 
 pub tab-bytes : (n : ℕ) (f : ℕ → ℕ) → ((i : ℕ) → i < n → f i < 256) → Bytes (tab n f)
@@ -114,6 +118,57 @@ unfolding joined
 joined-messages D k payload e =
     sym (is-tab (D * k) _ payload e
     (λ q l. sym (message-byte k payload (q / k) (q % k) (byte-below D k q l) ∙ ap (λ (x : ℕ). getD payload x 0) (at.place-is k D q (turned D k q l)))))
+
+-- ---- a loop that stores lists of k cells one after the other
+
+pub rows-start : (k : ℕ) (g : ℕ → List ℕ) (o : List ℕ) → o ≡ joined 0 k g ++ drop (0 * k) o
+unfolding joined
+rows-start k g o = rw zero-mul
+
+module _ (k d : ℕ) (g : ℕ → List ℕ) (o s : List ℕ) (e : s ≡ joined d k g ++ drop (d * k) o) where
+  -- a turn: list d is stored
+  pub rows-more : (w : List ℕ) → d * k ≤ length o → length w ≡ k → w ≡ g d
+      → putMid (d * k) (d * k + k - d * k) s w ≡ joined (d + 1) k g ++ drop ((d + 1) * k) o
+  unfolding joined
+  rows-more w l c q =
+      let z : d * k + k - d * k ≡ k = omega arith in
+      let n : (d + 1) * k ≡ d * k + k = rw (add-one, suc-mul) in
+      rw (e, z, n)
+      (part-more (d * k) k _ o w l c (λ j b. ap₂ (λ (m : List ℕ) (i : ℕ). getD m i 0) (q ∙ ap g (sym (at.quotient-of k d j b))) (sym (at.remainder-of k d j b))))
+
+  -- the end
+  pub rows-end : (D : ℕ) → d ≡ D → length o ≡ D * k → s ≡ joined D k g
+  rows-end D q l = e ∙ rw (q, drop-of-length-le o (let z : length o ≤ D * k = omega arith in z)) (append-nil _)
+
+-- ---- a loop that lays the cells of a block at d, D + d, 2 D + d, ..
+
+-- t is s with the first m cells of w laid
+pub record LaidUpTo (m D d : ℕ) (w s t : List ℕ) : Type 0 where
+  pub cells : (i : ℕ) → i < m → getD t (i * D + d) 0 ≡ getD w i 0
+  pub others : (i e : ℕ) → e < D → e ≢ d → getD t (i * D + e) 0 ≡ getD s (i * D + e) 0
+
+pub laid-start : (D d : ℕ) (w s : List ℕ) → LaidUpTo 0 D d w s s
+laid-start D d w s = record { cells = λ i l. absurd (not-suc-le-zero l); others = λ i e l n. refl }
+
+pub laid-end : (m D d : ℕ) (w s t : List ℕ) → m ≡ length w → LaidUpTo m D d w s t → Laid D d w s t
+laid-end m D d w s t q h = record { cells = λ i l. h .cells i (omega arith); others = h .others }
+
+-- two places are one only where quotients and remainders are
+module _ (D d e : ℕ) (h : d < D) (g : e < D) (i j : ℕ) (q : i * D + d ≡ j * D + e) where
+  pub same-remainder : d ≡ e
+  same-remainder = sym (at.remainder-of D i d h) ∙ ap (λ (x : ℕ). x % D) q ∙ at.remainder-of D j e g
+
+  pub same-quotient : i ≡ j
+  same-quotient = sym (at.quotient-of D i d h) ∙ ap (λ (x : ℕ). x / D) q ∙ at.quotient-of D j e g
+
+pub laid-more : (m D d : ℕ) (w s t : List ℕ) → d < D → m * D + d < length t → LaidUpTo m D d w s t → LaidUpTo (m + 1) D d w s (set t (m * D + d) (getD w m 0))
+laid-more m D d w s t h l u = record {
+  cells = λ i b. ⊎-elim
+      (λ e. rw e (getD-set-same t (m * D + d) (getD w m 0) 0 l))
+      (λ k. getD-set-other t (m * D + d) (i * D + d) (getD w m 0) 0 (λ q. let z : i ≡ m = same-quotient D d d h h i m q in omega arith) ∙ u .cells i k)
+      (eq-or-lt-of-le (let z : i ≤ m = omega arith in z));
+  others = λ i e g n. getD-set-other t (m * D + d) (i * D + e) (getD w m 0) 0 (λ q. n (same-remainder D e d g h i m q)) ∙ u .others i e g n;
+}
 
 -- ---- the statements
 

@@ -6,3 +6,5 @@ pub mod Reader
 pub mod Theorems
 pub mod Runs
 pub mod Promise
+pub mod Examples
+pub mod Entry

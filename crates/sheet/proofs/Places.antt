@@ -15,6 +15,10 @@ cell-inside D n i d h g = omega (arith, mul-le-mul-right D g, suc-mul i D, mul-c
 pub part-inside : (D k d : ℕ) → d < D → d * k + k ≤ D * k
 part-inside D k d h = omega (arith, mul-le-mul-right k h, suc-mul d k)
 
+-- and so do the k message cells of block d, of n = r + k cells
+pub cells-inside : (D n r k d : ℕ) → d < D → r + k ≡ n → d * n + r + k ≤ D * n
+cells-inside D n r k d h e = omega (arith, part-inside D n d h)
+
 module _ (D i d : ℕ) (h : d < D) where
   pub quotient-of : (i * D + d) / D ≡ i
   quotient-of =

@@ -1,4 +1,4 @@
--- The promise of specs/Promise.antt. Each block of a scratched sheet agrees with the written block outside a run of at most h cells, so
+-- The promise of specs/Promise.antt. Each block of a damaged sheet agrees with the written block outside a run of at most h cells, so
 -- it is corrected to it by the block's promise; a written block is its own codeword.
 use mathlib.Core.Path.{_≡_, refl, sym, ap, ap₂, subst, _∙_}
 use mathlib.Core.Logic.{_⊎_, inl, inr, ⊎-elim}
@@ -18,7 +18,7 @@ use Rattle.block.proofs.Ranges.{in-range}
 use Rattle.block.proofs.Promises.{exactly-one, corrected-iff, half-promise}
 use Rattle.sheet.specs.Sheet.{messageOf, joined, writtenBlock, writtenSheet, writeFits, writeAnswer, writeLeaves, readBlock, differ}
 use Rattle.sheet.specs.Theorems.{Payload, Sheet, Lent, HasWord, AllWords, differing}
-use Rattle.sheet.specs.Promise.{Writes, ReadsBack, Scratched, SheetPromise}
+use Rattle.sheet.specs.Promise.{Writes, ReadsBack, Damaged, SheetPromise}
 use Rattle.sheet.proofs.Places.{cell-inside}
 use Rattle.sheet.proofs.Apart.{block-cell, same-joined, joined-messages}
 use Rattle.sheet.proofs.Verdicts.{no-cell, differ-self}
@@ -61,14 +61,13 @@ module _ (p : Profile) (m : List ℕ) (v : InRange p) (h : Payload p m) where
   -- where each block has the written block as its codeword, the payload comes back
   reads-back : (sheet : List ℕ) → AllWords p sheet (writtenBlock p m) → ReadsBack p m sheet (differing (p .depth) (readBlock p written) (readBlock p sheet))
   reads-back sheet a scratch out l =
-      let q = all-words p sheet scratch out v l (writtenBlock p m) a in
-      (
+      let q = all-words p sheet scratch out v l (writtenBlock p m) a in (
         q .answer ∙ ap Rattle.sheet.specs.declared.Reading.the-variants.Accepted
-        (same-sum (p .depth) (λ (d : ℕ). pick (differ (writtenBlock p m d) (readBlock p sheet d)) 1 0) (λ (d : ℕ). pick (differ (readBlock p written d) (readBlock p sheet d)) 1 0)
-        (λ d k. ap (λ (x : List ℕ). pick (differ x (readBlock p sheet d)) 1 0) (sym (written-block p m v h d k)))),
+            (same-sum (p .depth) (λ (d : ℕ). pick (differ (writtenBlock p m d) (readBlock p sheet d)) 1 0) (λ (d : ℕ). pick (differ (readBlock p written d) (readBlock p sheet d)) 1 0)
+            (λ d k. ap (λ (x : List ℕ). pick (differ x (readBlock p sheet d)) 1 0) (sym (written-block p m v h d k)))),
         q .payload
-        ∙ same-joined (p .depth) (messageLength p) (λ (d : ℕ). drop (p .r) (writtenBlock p m d)) (messageOf (messageLength p) m) (λ d k. written-message p m v h d k)
-        ∙ joined-messages (p .depth) (messageLength p) m (h .count),
+            ∙ same-joined (p .depth) (messageLength p) (λ (d : ℕ). drop (p .r) (writtenBlock p m d)) (messageOf (messageLength p) m) (λ d k. written-message p m v h d k)
+            ∙ joined-messages (p .depth) (messageLength p) m (h .count),
       )
 
   own-words : AllWords p written (writtenBlock p m)
@@ -79,7 +78,7 @@ module _ (p : Profile) (m : List ℕ) (v : InRange p) (h : Payload p m) where
   none-changed : differing (p .depth) (readBlock p written) (readBlock p written) ≡ 0
   none-changed = zero-sum (p .depth) (λ (d : ℕ). pick (differ (readBlock p written d) (readBlock p written d)) 1 0) (λ d l. rw (differ-self (readBlock p written d)))
 
-  module _ (sheet : List ℕ) (k : half p ≤ p .limit) (z : Scratched p m sheet) (d : ℕ) (l : d < p .depth) where
+  module _ (sheet : List ℕ) (k : half p ≤ p .limit) (z : Damaged p m sheet) (d : ℕ) (l : d < p .depth) where
     abbrev start : ℕ
     start = runs.first (p .depth) d l (z .start)
 
@@ -97,8 +96,8 @@ module _ (p : Profile) (m : List ℕ) (v : InRange p) (h : Payload p m) where
     reached : Reached p (readBlock p sheet d) start size (writtenBlock p m d)
     reached = record { run = runs.within (p .depth) d l (z .start) (z .size) (p .n) (z .run); codeword = written-word p m v h d l; agree = agrees }
 
-    scratched-word : HasWord p sheet d (writtenBlock p m d)
-    scratched-word =
+    damaged-word : HasWord p sheet d (writtenBlock p m d)
+    damaged-word =
         let y : List ℕ = readBlock p sheet d in
         let c : Cells p y = block-cells p sheet d (z .cells .bytes) in
         let q = half-promise p y start size (writtenBlock p m d) v c k (runs.few (p .depth) d l (z .start) (z .size) (half p) (z .short)) reached in
@@ -109,5 +108,5 @@ sheet-promise p m v h = record {
   writes = writes p m v h;
   cells = written-sheet p m v h;
   back = subst (ReadsBack p m (writtenSheet p m)) (none-changed p m v h) (reads-back p m v h (writtenSheet p m) (own-words p m v h));
-  scratched = λ sheet k z. reads-back p m v h sheet (scratched-word p m v h sheet k z);
+  damaged = λ sheet k z. reads-back p m v h sheet (damaged-word p m v h sheet k z);
 }

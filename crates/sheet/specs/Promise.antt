@@ -23,7 +23,7 @@ module _ (p : Profile) (m : List ℕ) where
       → (readAnswer p sheet scratch out ≡ Accepted changed) × (readPayload p sheet scratch out ≡ m)
 
   -- "A run of a sheet is a start and a length whose sum is at most D × n": a sheet that is as written outside one run of at most D × h cells
-  pub record Scratched (sheet : List ℕ) : Type 0 where
+  pub record Damaged (sheet : List ℕ) : Type 0 where
     pub cells : Sheet p sheet
     pub start : ℕ
     pub size : ℕ
@@ -36,7 +36,7 @@ module _ (p : Profile) (m : List ℕ) where
     pub cells : Sheet p (writtenSheet p m)
     pub back : ReadsBack (writtenSheet p m) 0
     -- a block counts as changed exactly where its read cells are not those that were written
-    pub scratched : (sheet : List ℕ) → half p ≤ p .limit → Scratched sheet
+    pub damaged : (sheet : List ℕ) → half p ≤ p .limit → Damaged sheet
         → ReadsBack sheet (differing (p .depth) (readBlock p (writtenSheet p m)) (readBlock p sheet))
 
 abbrev pub SheetPromise : Type 0

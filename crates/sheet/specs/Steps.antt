@@ -1,0 +1,28 @@
+-- What the private steps of the writer and the reader leave in their buffers. No promise rests on these words: they join the loops.
+use mathlib.Core.Path.{_≡_}
+use mathlib.Core.Logic.{_≢_}
+use mathlib.Core.Bool.{true}
+use mathlib.Core.List.{List}
+use Prim.Native.Nat.{ℕ, _+_, _*_, _<_}
+use lib.Dec.{eqb}
+use lib.ListN.{length, getD, take, drop}
+use Rattle.lists.specs.Choice.{pick}
+use Rattle.block.specs.declared.Verdict.{Verdict}
+use Rattle.block.specs.declared.Verdict.the-variants as verdicts
+
+-- t is s with the cells w laid at d, D + d, 2 D + d, ..
+pub record Laid (D d : ℕ) (w s t : List ℕ) : Type 0 where
+  pub cells : (i : ℕ) → i < length w → getD t (i * D + d) 0 ≡ getD w i 0
+  pub others : (i e : ℕ) → e < D → e ≢ d → getD t (i * D + e) 0 ≡ getD s (i * D + e) 0
+
+-- 1 where the verdict changed a cell, and else 0
+abbrev pub changedBy : Verdict → ℕ
+changedBy (verdicts.Corrected s f) = pick (eqb f 0) 0 1
+changedBy verdicts.BadProfile = 0
+changedBy verdicts.WrongLength = 0
+changedBy verdicts.Uncorrectable = 0
+changedBy verdicts.Ambiguous = 0
+
+-- where blocks of n cells stand one after the other: the k message cells of block d, after its r check cells
+unfoldable pub messageAt : ℕ → ℕ → ℕ → List ℕ → ℕ → List ℕ
+messageAt n r k blocks d = take k (drop (d * n + r) blocks)
