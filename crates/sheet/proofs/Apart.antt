@@ -13,7 +13,7 @@ use lib.Seq.{length-take-le, getD-take, getD-drop, ext-getD, getD-set-same, getD
 use Rattle.code.specs.Poly.{Bytes}
 use Rattle.code.proofs.Poly.{getD-byte, take-bytes, drop-bytes}
 use Rattle.sheet.specs.Sheet.{tab, interleave, blockOf, joined, messageOf}
-use Rattle.sheet.specs.Steps.{Laid}
+use Rattle.sheet.specs.Steps.{Laid, messageAt}
 use Rattle.sheet.specs.Theorems.{Places, TakenApart}
 use Rattle.sheet.proofs.Lists.{length-tab, getD-tab, is-tab, same-tab, part-more}
 use Rattle.sheet.proofs.Places as at
@@ -140,18 +140,23 @@ module _ (k d : ℕ) (g : ℕ → List ℕ) (o s : List ℕ) (e : s ≡ joined d
   pub rows-end : (D : ℕ) → d ≡ D → length o ≡ D * k → s ≡ joined D k g
   rows-end D q l = e ∙ rw (q, drop-of-length-le o (let z : length o ≤ D * k = omega arith in z)) (append-nil _)
 
+-- the message cells of blocks that stand one after the other are those of the blocks
+pub messages-of-rows : (D n r k : ℕ) (g : ℕ → List ℕ) → r + k ≡ n → joined D k (messageAt n r k (joined D n g)) ≡ joined D k (λ (d : ℕ). drop r (g d))
+unfolding joined messageAt
+messages-of-rows D n r k g e = same-tab (D * k) _ _ (λ q l. cell (q / k) (q % k) (message-below D k q l) (byte-below D k q l))
+  where
+    cell : (d j : ℕ) → d < D → j < k → getD (messageAt n r k (joined D n g) d) j 0 ≡ getD (drop r (g d)) j 0
+    cell d j h l =
+        getD-take k (drop (d * n + r) (joined D n g)) j 0 l
+        ∙ getD-drop (d * n + r) (joined D n g) j 0
+        ∙ ap (λ (x : ℕ). getD (joined D n g) x 0) (let z : d * n + r + j ≡ d * n + (r + j) = omega arith in z)
+        ∙ joined-byte D n g d (r + j) h (omega arith)
+        ∙ sym (getD-drop r (g d) j 0)
+
 -- ---- a loop that lays the cells of a block at d, D + d, 2 D + d, ..
 
--- t is s with the first m cells of w laid
-pub record LaidUpTo (m D d : ℕ) (w s t : List ℕ) : Type 0 where
-  pub cells : (i : ℕ) → i < m → getD t (i * D + d) 0 ≡ getD w i 0
-  pub others : (i e : ℕ) → e < D → e ≢ d → getD t (i * D + e) 0 ≡ getD s (i * D + e) 0
-
-pub laid-start : (D d : ℕ) (w s : List ℕ) → LaidUpTo 0 D d w s s
+pub laid-start : (D d : ℕ) (w s : List ℕ) → Laid D 0 d w s s
 laid-start D d w s = record { cells = λ i l. absurd (not-suc-le-zero l); others = λ i e l n. refl }
-
-pub laid-end : (m D d : ℕ) (w s t : List ℕ) → m ≡ length w → LaidUpTo m D d w s t → Laid D d w s t
-laid-end m D d w s t q h = record { cells = λ i l. h .cells i (omega arith); others = h .others }
 
 -- two places are one only where quotients and remainders are
 module _ (D d e : ℕ) (h : d < D) (g : e < D) (i j : ℕ) (q : i * D + d ≡ j * D + e) where
@@ -161,7 +166,7 @@ module _ (D d e : ℕ) (h : d < D) (g : e < D) (i j : ℕ) (q : i * D + d ≡ j 
   pub same-quotient : i ≡ j
   same-quotient = sym (at.quotient-of D i d h) ∙ ap (λ (x : ℕ). x / D) q ∙ at.quotient-of D j e g
 
-pub laid-more : (m D d : ℕ) (w s t : List ℕ) → d < D → m * D + d < length t → LaidUpTo m D d w s t → LaidUpTo (m + 1) D d w s (set t (m * D + d) (getD w m 0))
+pub laid-more : (m D d : ℕ) (w s t : List ℕ) → d < D → m * D + d < length t → Laid D m d w s t → Laid D (m + 1) d w s (set t (m * D + d) (getD w m 0))
 laid-more m D d w s t h l u = record {
   cells = λ i b. ⊎-elim
       (λ e. rw e (getD-set-same t (m * D + d) (getD w m 0) 0 l))

@@ -8,3 +8,5 @@ pub mod Runs
 pub mod Promise
 pub mod Examples
 pub mod Entry
+pub mod Blocks
+pub mod Steps

@@ -3,17 +3,17 @@ use Prim.Native.Nat.{ℕ, _+_, _*_, _≤_, _<_, _-_}
 use native.Mathlib.Nat.{suc-mul}
 use native.Mathlib.Numerals.{add-one}
 use native.Mathlib.Omega.{arith}
-use mathlib.Core.Path.{_≡_, refl, sym, ap, _∙_}
-use mathlib.Core.Logic.{_≢_}
-use lib.ListN.{length, getD, length-set}
+use mathlib.Core.Path.{_≡_, refl, sym}
+use lib.ListN.{length, length-set}
+use Rattle.sheet.specs.Steps.{Laid}
 use Rattle.sheet.proofs.Places.{cell-inside}
-use Rattle.sheet.proofs.Apart.{laid-start, laid-more, laid-end, LaidUpTo}
+use Rattle.sheet.proofs.Apart.{laid-start, laid-more}
 use Rattle.sheet.proofs.scatter.Statement.{statement}
 use Rattle.sheet.proofs.scatter.Tie as tie
 
 abbrev Inv-loop : tie.InvT-loop
 Inv-loop word d depth sheet₀ at₀ i₀ sheet at i =
-    (i ≤ length word) × (length sheet ≡ length sheet₀) × (at ≡ i * depth + d) × LaidUpTo i depth d word sheet₀ sheet
+    (i ≤ length word) × (length sheet ≡ length sheet₀) × (at ≡ i * depth + d) × Laid depth i d word sheet₀ sheet
 
 abbrev μ-loop : tie.MeasureT-loop
 μ-loop word d depth sheet₀ at₀ i₀ sheet at i = length word - i
@@ -64,7 +64,7 @@ returns : tie.Need-returns Inv-loop μ-loop
 returns c =
     let l = c .before .loop in
     let e : l .i ≡ length (c .before .before .args .word .now) = omega arith in
-    laid-end (l .i) _ _ _ _ _ e (l .inv .3)
+    rw (sym e) (l .inv .3)
 
 pub scatter-spec : {M : Type 1} → statement M
 scatter-spec =
