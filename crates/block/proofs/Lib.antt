@@ -1,4 +1,8 @@
 pub mod Ranges
-pub mod Search
-pub mod Write
+pub mod Shortest
+pub mod Encoding
 pub mod Promises
+pub mod Steps
+pub mod Entries
+pub mod Outcome
+pub mod Copies

@@ -23,7 +23,7 @@ use Rattle.block.specs.Promises.{Cells, Word, Reached, Least, NoneReache
 use Rattle.block.specs.declared.Profile.{Profile}
 use Rattle.block.specs.declared.Verdict.{Verdict}
 use Rattle.block.specs.declared.Verdict.the-variants.{BadProfile, WrongLength, Uncorrectable, Ambiguous, Corrected}
-use Rattle.block.proofs.Search.{empty-run, word, best, e, scan, reach-word, extent-reach, clean-word, word-clean, clean-verdict, wrong-verdict, not-empty, reach-start, reach-size, small, best-reach, best-least, at-size, apart}
+use Rattle.block.proofs.Shortest.{empty-run, word, best, e, scan, reach-word, extent-reach, clean-word, word-clean, clean-verdict, wrong-verdict, not-empty, reach-start, reach-size, small, best-reach, best-least, at-size, apart}
 
 -- three verdicts that differ
 uncorrectable-ambiguous : _≡_ {A = Verdict} Uncorrectable Ambiguous → ⊥
@@ -36,7 +36,7 @@ ambiguous-corrected : {s f : ℕ} → _≡_ {A = Verdict} Ambiguous (Corrected s
 ambiguous-corrected q = let z : _≡_ {A = ℕ} 0 1 = cc in omega arith
 
 -- nothing added is the word itself
-added-none : (y : List ℕ) (s : ℕ) (R : List ℕ) → s ≤ length y → addedAt s (take 0 R) y ≡ y
+pub added-none : (y : List ℕ) (s : ℕ) (R : List ℕ) → s ≤ length y → addedAt s (take 0 R) y ≡ y
 unfolding addedAt
 added-none y s R l = ap (padd y) (rw mathlib.Core.List.append-nil) ∙ padd-zeros y s l
 

@@ -1,3 +1,4 @@
 pub mod Profile
 pub mod Block
+pub mod Found
 pub mod Promises

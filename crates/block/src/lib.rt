@@ -1,6 +1,20 @@
-// The block of document 01: its profile, and writing, checking and correcting one block.
+// The block of document 01: its profile, and writing, checking and correcting one block. A block's check cells, its remainder and the
+// shifted remainders of the search come from the shift register of the crate `register`; each entry refuses with 1, then 2, and its
+// contract gives the answer and every lent byte by a definition of specs/Block.antt.
 ghost use mathlib.Core.Path.{_≡_};
-ghost use Rattle.block.specs.Profile.{inRange, messageLength, half};
+ghost use mathlib.Core.Bool.{false};
+ghost use mathlib.Core.List.{_++_};
+ghost use Prim.Native.Nat.{_+_, _≤_, _<_};
+ghost use lib.ListN.{length, take};
+ghost use Rattle.code.specs.Poly.{padd};
+ghost use Rattle.code.specs.Code.{generator, remainder};
+ghost use Rattle.code.specs.Run.{ZeroFrom, addedAt};
+ghost use Rattle.register.specs.Words.{cells};
+ghost use Rattle.register.specs.Register.{padTo};
+ghost use Rattle.block.specs.Profile.{InRange, inRange, messageLength, half};
+ghost use Rattle.block.specs.Block.{checkCells, isClean, verdict, filled, verdictNumber, verdictStart, verdictLength, writtenNumber, checkedNumber, writeAnswer, writeLeaves, checkAnswer, correctAnswer, correctLeaves};
+ghost use Rattle.block.specs.Found.{improvedBy, Searched};
+use register::Register;
 
 /// The five numbers of a profile: cells in a block (n), check cells (r), starting power (b), the longest run that may be
 /// corrected (L, `limit`), and blocks in a sheet (D, `depth`).
@@ -92,4 +106,289 @@ impl Profile {
         }
         true
     }
+}
+
+// ---- answers as numbers
+
+/// Document 01's number of a verdict: 1 to 4, or 0 for a corrected block.
+pub fn verdict_number(v: Verdict) -> usize
+    ensures { λ r. ⌜ r ≡ verdictNumber v ⌝ }
+{
+    match v {
+        Verdict::BadProfile => 1,
+        Verdict::WrongLength => 2,
+        Verdict::Uncorrectable => 3,
+        Verdict::Ambiguous => 4,
+        Verdict::Corrected {
+            start: _,
+            length: _,
+        } => 0,
+    }
+}
+
+/// The start of a corrected block's run; 0 beside a refusal.
+pub fn verdict_start(v: Verdict) -> usize
+    ensures { λ r. ⌜ r ≡ verdictStart v ⌝ }
+{
+    match v {
+        Verdict::Corrected { start, length: _ } => start,
+        Verdict::BadProfile => 0,
+        Verdict::WrongLength => 0,
+        Verdict::Uncorrectable => 0,
+        Verdict::Ambiguous => 0,
+    }
+}
+
+/// The length of a corrected block's run; 0 beside a refusal.
+pub fn verdict_length(v: Verdict) -> usize
+    ensures { λ r. ⌜ r ≡ verdictLength v ⌝ }
+{
+    match v {
+        Verdict::Corrected { start: _, length } => length,
+        Verdict::BadProfile => 0,
+        Verdict::WrongLength => 0,
+        Verdict::Uncorrectable => 0,
+        Verdict::Ambiguous => 0,
+    }
+}
+
+/// 1, 2, or 0 for a block that was written.
+pub fn written_number(w: Written) -> usize
+    ensures { λ r. ⌜ r ≡ writtenNumber w ⌝ }
+{
+    match w {
+        Written::BadProfile => 1,
+        Written::WrongLength => 2,
+        Written::Done => 0,
+    }
+}
+
+/// 1, 2, or 0 for a block that was checked, clean or not.
+pub fn checked_number(c: Checked) -> usize
+    ensures { λ r. ⌜ r ≡ checkedNumber c ⌝ }
+{
+    match c {
+        Checked::BadProfile => 1,
+        Checked::WrongLength => 2,
+        Checked::Clean => 0,
+        Checked::NotClean => 0,
+    }
+}
+
+// ---- writing
+
+// The r check cells of a message, as the lowest of the register.
+fn message_checks(p: Profile, message: &[u8]) -> Register
+    requires { ⌜ InRange p ⌝ }
+    requires { ⌜ length (now message) ≡ messageLength p ⌝ }
+    ensures { λ z. ⌜ cells z ≡ padTo 64 (checkCells (p .b) (p .r) (now (message .entry))) ⌝ }
+{
+    register::lowered(register::check_cells(p.b, p.r, message), p.r)
+}
+
+// The first r of the check cells, and the message above them.
+fn lay_out(r: usize, checks: [u8; 64], message: &[u8], cells: &mut [u8])
+    requires { ⌜ r ≤ 64 ⌝ }
+    requires { ⌜ length (now cells) ≡ r + length (now message) ⌝ }
+    ensures { λ _. ⌜ now (cells .exit) ≡ take r checks ++ now (message .entry) ⌝ }
+{
+    bytes::copy(&checks[..r], &mut cells[..r]);
+    bytes::copy(message, &mut cells[r..]);
+}
+
+/// Writes the block of a message: k bytes in, n cells out.
+pub fn write(p: Profile, message: &[u8], cells: &mut [u8]) -> Written
+    ensures { λ a. ⌜ a ≡ writeAnswer p (now (message .entry)) (now (cells .entry)) ⌝ }
+    ensures { λ _. ⌜ now (cells .exit) ≡ writeLeaves p (now (message .entry)) (now (cells .entry)) ⌝ }
+{
+    if !p.in_range() {
+        return Written::BadProfile;
+    }
+    if message.len() != p.message_length() {
+        return Written::WrongLength;
+    }
+    if cells.len() != p.n {
+        return Written::WrongLength;
+    }
+    lay_out(
+        p.r,
+        register::low_cells(message_checks(p, message)),
+        message,
+        cells,
+    );
+    Written::Done
+}
+
+// ---- checking
+
+// The remainder of a block by the generator, as the lowest r cells of the register.
+fn remainder_of(p: Profile, read: &[u8]) -> Register
+    requires { ⌜ InRange p ⌝ }
+    requires { ⌜ length (now read) ≡ p .n ⌝ }
+    ensures { λ z. ⌜ cells z ≡ padTo 64 (remainder (p .r) (generator (p .b) (p .r)) (now (read .entry))) ⌝ }
+{
+    let r = p.r;
+    let checks = message_checks(p, &read[r..]);
+    register::add(register::load(&read[..r]), checks)
+}
+
+/// Whether a block is a codeword.
+pub fn check(p: Profile, read: &[u8]) -> Checked
+    ensures { λ a. ⌜ a ≡ checkAnswer p (now (read .entry)) ⌝ }
+{
+    if !p.in_range() {
+        return Checked::BadProfile;
+    }
+    if read.len() != p.n {
+        return Checked::WrongLength;
+    }
+    if register::extent(remainder_of(p, read)) == 0 {
+        return Checked::Clean;
+    }
+    Checked::NotClean
+}
+
+// ---- correcting
+
+// What the search has found: the least length, its first start, whether a second start has it, and the shifted remainder there.
+struct Found {
+    size: usize,
+    start: usize,
+    again: bool,
+    error: Register,
+}
+
+// One start: the run from s needs as many cells as the extent of its shifted remainder.
+fn improved(k: Found, n: usize, s: usize, rest: Register) -> Found
+    requires { ⌜ s < 256 ⌝ }
+    ensures { λ z. ⌜ z ≡ improvedBy k n s rest ⌝ }
+{
+    let e = register::extent(rest);
+    let size = k.size;
+    if n < s + e {
+        return k;
+    }
+    if e < size {
+        return Found {
+            size: e,
+            start: s,
+            again: false,
+            error: rest,
+        };
+    }
+    if size < e {
+        return k;
+    }
+    let start = k.start;
+    let error = k.error;
+    Found {
+        size,
+        start,
+        again: true,
+        error,
+    }
+}
+
+// The search: one pass over the starts, with the shifted remainder of each. A step back adds the rows of the two halves of the lowest cell.
+fn search(p: Profile, first: Register) -> Found
+    requires { ⌜ InRange p ⌝ }
+    requires { ⌜ ZeroFrom (p .r) (cells first) ⌝ }
+    ensures { λ z. ⌜ Searched p (take (p .r) (cells first)) z ⌝ }
+{
+    let back = register::generator_bottom(p.b, p.r);
+    let low = register::rows(back);
+    let high = register::high_rows(back);
+    let mut rest = first;
+    let mut found = Found {
+        size: p.limit + 1,
+        start: 0,
+        again: false,
+        error: first,
+    };
+    let mut s: usize = 0;
+    while s < p.n {
+        let next = improved(found, p.n, s, rest);
+        found = next;
+        let f = register::bottom(rest);
+        let l = low[f % 16];
+        let h = high[f / 16];
+        let shifted = register::add(register::add(register::shift_down(rest), l), h);
+        rest = shifted;
+        s += 1;
+    }
+    found
+}
+
+// Adds the lowest cells of an error to a part of a block.
+fn add_error(error: [u8; 64], part: &mut [u8])
+    requires { ⌜ length (now part) ≤ 64 ⌝ }
+    ensures { λ _. ⌜ now (part .exit) ≡ padd (now (part .entry)) (take (length (now (part .entry))) error) ⌝ }
+{
+    let mut i = 0;
+    while i < part.len() {
+        part[i] = part[i] ^ error[i];
+        i += 1;
+    }
+}
+
+// The read cells with the lowest cells of an error added from `start` on.
+fn place(read: &[u8], error: [u8; 64], start: usize, size: usize, out: &mut [u8])
+    requires { ⌜ length (now out) ≡ length (now read) ⌝ }
+    requires { ⌜ (start + size ≤ length (now read)) × (size ≤ 64) ⌝ }
+    ensures { λ _. ⌜ now (out .exit) ≡ addedAt start (take size error) (now (read .entry)) ⌝ }
+{
+    let end = start + size;
+    bytes::copy(read, out);
+    add_error(error, &mut out[start..end]);
+}
+
+// A block that is not clean, with its remainder.
+fn correct_errors(p: Profile, rest: Register, read: &[u8], out: &mut [u8]) -> Verdict
+    requires { ⌜ InRange p ⌝ }
+    requires { ⌜ (length (now read) ≡ p .n) × (length (now out) ≡ p .n) ⌝ }
+    requires { ⌜ cells rest ≡ padTo 64 (remainder (p .r) (generator (p .b) (p .r)) (now read)) ⌝ }
+    requires { ⌜ isClean (p .b) (p .r) (now read) ≡ false ⌝ }
+    ensures { λ a. ⌜ a ≡ verdict p (now (read .entry)) ⌝ }
+    ensures { λ _. ⌜ now (out .exit) ≡ filled p (now (read .entry)) (now (out .entry)) (verdict p (now (read .entry))) ⌝ }
+{
+    let found = search(p, rest);
+    let size = found.size;
+    let start = found.start;
+    let error = found.error;
+    if p.limit < size {
+        return Verdict::Uncorrectable;
+    }
+    if found.again {
+        return Verdict::Ambiguous;
+    }
+    place(read, register::low_cells(error), start, size, out);
+    Verdict::Corrected {
+        start,
+        length: size,
+    }
+}
+
+/// Corrects a block: n cells read, and the codeword of the shortest run written to `out`, n bytes. Refused blocks leave `out` as it was.
+pub fn correct(p: Profile, read: &[u8], out: &mut [u8]) -> Verdict
+    ensures { λ a. ⌜ a ≡ correctAnswer p (now (read .entry)) (now (out .entry)) ⌝ }
+    ensures { λ _. ⌜ now (out .exit) ≡ correctLeaves p (now (read .entry)) (now (out .entry)) ⌝ }
+{
+    if !p.in_range() {
+        return Verdict::BadProfile;
+    }
+    if read.len() != p.n {
+        return Verdict::WrongLength;
+    }
+    if out.len() != p.n {
+        return Verdict::WrongLength;
+    }
+    let rest = remainder_of(p, read);
+    if register::extent(rest) == 0 {
+        bytes::copy(read, out);
+        return Verdict::Corrected {
+            start: 0,
+            length: 0,
+        };
+    }
+    correct_errors(p, rest, read, out)
 }

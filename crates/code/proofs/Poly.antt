@@ -38,6 +38,11 @@ getD-byte [] k h = omega arith
 getD-byte (x ∷ p) zero h = h .0
 getD-byte (x ∷ p) (suc k) h = getD-byte p k (h .1)
 
+-- cells that are bytes, one by one
+pub bytes-of : (p : List ℕ) → ((i : ℕ) → getD p i 0 < 256) → Bytes p
+bytes-of [] h = tt
+bytes-of (x ∷ p) h = (h 0, bytes-of p (λ i. h (suc i)))
+
 -- ---- lengths
 
 pub padd-length : (p q : List ℕ) → length q ≤ length p → length (padd p q) ≡ length p

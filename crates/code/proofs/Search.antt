@@ -8,7 +8,7 @@ use Prim.Native.Nat.{ℕ, zero, suc, _+_, _≤_, _<_, zero-le, suc-le-suc}
 use native.Mathlib.Nat.{le-of-suc-le-suc, eq-or-lt-of-le}
 use native.Mathlib.Omega.{arith}
 use lib.Dec.{eqb, ltb, leb}
-use lib.ListN.{length, getD}
+use lib.ListN.{length, getD, List·getD-eq-default}
 use borrow.Author.Tests.{eq-eqb, eqb-true, eqb-false, ltb-true, ltb-false, leb-true, leb-false}
 use Rattle.lists.specs.Choice.{pick}
 use Rattle.lists.proofs.Test.{true-or-false, true-false}
@@ -40,6 +40,9 @@ extent-least (x ∷ R) zero z =
 extent-least (x ∷ R) (suc f) z =
     let e : extent R ≤ f = extent-least R f (λ k l. z (suc k) (suc-le-suc l)) in
     ⊎-elim (λ t. rw t (⊎-elim (λ u. rw u zero-le) (λ u. rw u (omega arith)) (true-or-false (eqb x 0)))) (λ t. rw t (suc-le-suc e)) (true-or-false (eqb (extent R) 0))
+
+pub extent-le : (R : List ℕ) → extent R ≤ length R
+extent-le R = extent-least R (length R) (λ k l. List·getD-eq-default R 0 l)
 
 -- ---- the search
 

@@ -58,12 +58,12 @@ pub backStep-bytes : (g R : List ℕ) → Bytes R → Bytes (backStep g R)
 unfolding backStep
 backStep-bytes g R h = sum-tail-bytes _ g R h
 
-backSteps-length : (s r : ℕ) (g R : List ℕ) → length g ≡ suc r → length R ≡ r → length (backSteps s g R) ≡ r
+pub backSteps-length : (s r : ℕ) (g R : List ℕ) → length g ≡ suc r → length R ≡ r → length (backSteps s g R) ≡ r
 unfolding backSteps
 backSteps-length zero r g R hg hR = hR
 backSteps-length (suc s) r g R hg hR = backStep-length r g (backSteps s g R) hg (backSteps-length s r g R hg hR)
 
-backSteps-bytes : (s : ℕ) (g R : List ℕ) → Bytes R → Bytes (backSteps s g R)
+pub backSteps-bytes : (s : ℕ) (g R : List ℕ) → Bytes R → Bytes (backSteps s g R)
 unfolding backSteps
 backSteps-bytes zero g R h = h
 backSteps-bytes (suc s) g R h = backStep-bytes g (backSteps s g R) (backSteps-bytes s g R h)

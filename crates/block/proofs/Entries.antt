@@ -1,0 +1,192 @@
+-- The cases of an entry, over plain values: refusal 1, refusal 2, and what the register gives for an accepted block.
+use mathlib.Core.Path.{_≡_, refl, sym, ap, ap₂, _∙_, subst}
+use mathlib.Core.Bool.{Bool, true, false}
+use mathlib.Core.List.{List, [], _∷_, _++_}
+use Prim.Native.Nat.{ℕ, zero, suc, _+_, _-_, _≤_, _<_, min}
+use native.Mathlib.Nat.{min-eq-left}
+use native.Mathlib.Omega.{arith}
+use lib.Dec.{eqb}
+use lib.ListN.{length, getD, take, drop, replicate, take-append-drop, length-drop}
+use lib.Seq.{length-take-le, take-all, take-at, getD-append-add}
+use borrow.Author.Tests.{eq-eqb, ne-eqb, eqb-true}
+use Rattle.lists.specs.Choice.{pick, both}
+use Rattle.code.specs.Poly.{Bytes, padd}
+use Rattle.code.specs.Code.{generator, remainder}
+use Rattle.code.specs.Run.{ZeroFrom, backSteps, shiftedRemainder, addedAt}
+use Rattle.code.specs.Search.{extent, extents, scanned}
+use Rattle.code.proofs.Poly.{getD-zeros, take-bytes, drop-bytes}
+use Rattle.code.proofs.Division.{remainder-length}
+use Rattle.register.specs.Register.{padTo, onTop, feeds}
+use Rattle.register.proofs.Align.{pad-sum, drop-top, pad-is}
+use Rattle.register.proofs.LastCell.{extent-pad}
+use Rattle.register.proofs.Remainder.{left-length, remainder-feeds, check-cells}
+use Rattle.block.specs.Profile.{InRange, inRange, messageLength}
+use Rattle.block.specs.Block.{checkCells, encode, refusing, isClean, decided, judged, verdict, filled, checkAnswer, writeFits, writeAnswer, writeLeaves, correctFits, correctAnswer, correctLeaves}
+use Rattle.block.specs.declared.Verdict.{Verdict}
+use Rattle.block.specs.declared.Verdict.the-variants as verdicts
+use Rattle.block.specs.declared.Written.the-variants as writes
+use Rattle.block.specs.declared.Checked.the-variants as checks
+use Rattle.block.specs.declared.Profile.{Profile}
+use Rattle.block.proofs.Ranges.{in-range}
+use Rattle.block.proofs.Encoding.{check-length}
+
+-- ---- refusals
+
+module _ {A : Type 0} (p : Profile) (fits : Bool) (one two rest : A) where
+  pub refuse-one : inRange p ≡ false → one ≡ refusing p fits one two rest
+  unfolding refusing
+  refuse-one e = rw e
+
+  module _ (v : inRange p ≡ true) where
+    pub refuse-two : fits ≡ false → two ≡ refusing p fits one two rest
+    unfolding refusing
+    refuse-two e = rw (v, e)
+
+    pub accept : fits ≡ true → rest ≡ refusing p fits one two rest
+    unfolding refusing
+    accept e = rw (v, e)
+
+-- two lengths
+pub both-right-length : (a b m n : ℕ) → a ≡ m → b ≡ n → both (eqb a m) (eqb b n) ≡ true
+both-right-length a b m n e f = rw (eq-eqb a m e, eq-eqb b n f)
+
+pub first-wrong : (a b m n : ℕ) → (a ≡ m → ⊥) → both (eqb a m) (eqb b n) ≡ false
+first-wrong a b m n h = rw (ne-eqb a m h)
+
+pub second-wrong : (a b m n : ℕ) → a ≡ m → (b ≡ n → ⊥) → both (eqb a m) (eqb b n) ≡ false
+second-wrong a b m n e h = rw (eq-eqb a m e, ne-eqb b n h)
+
+-- ---- what the register gives
+
+small : (r : ℕ) → r ≤ 64 → min r 64 ≡ r
+small r h = min-eq-left h
+
+module _ (p : Profile) (v : InRange p) where
+  pub checks-law : (m X Z : List ℕ) → Bytes m → X ≡ onTop (min (p .r) 64) (feeds (min (p .r) 64) (generator (p .b) (min (p .r) 64)) m)
+      → Z ≡ padTo 64 (drop (64 - min (p .r) 64) X) → Z ≡ padTo 64 (checkCells (p .b) (p .r) m)
+  unfolding checkCells
+  checks-law m X Z h eX eZ =
+      let e : min (p .r) 64 ≡ p .r = small (p .r) (v .r-most) in
+      eZ ∙ ap (λ (u : List ℕ). padTo 64 (drop (64 - min (p .r) 64) u)) eX
+      ∙ ap (padTo 64) (drop-top (min (p .r) 64) (feeds (min (p .r) 64) (generator (p .b) (min (p .r) 64)) m)
+      ∙ ap (λ (k : ℕ). feeds k (generator (p .b) k) m) e
+      ∙ sym (check-cells (p .b) (p .r) (omega (arith, v .r-least)) m (omega (arith, v .r-most)) h))
+
+  pub remainder-law : (y Z L C : List ℕ) → length y ≡ p .n → Bytes y → L ≡ padTo 64 (take (p .r) y)
+      → C ≡ padTo 64 (checkCells (p .b) (p .r) (take (length y - p .r) (drop (p .r) y))) → Z ≡ padd L C → Z ≡ padTo 64 (remainder (p .r) (generator (p .b) (p .r)) y)
+  unfolding checkCells
+  remainder-law y Z L C l h eL eC eZ =
+      let r : ℕ = p .r in
+      let g : List ℕ = generator (p .b) r in
+      let pos : 0 < r = omega (arith, v .r-least) in
+      let low : length (take r y) ≡ r = length-take-le r y (omega (arith, v .r-below)) in
+      let whole : take (length y - r) (drop r y) ≡ drop r y = take-all (length y - r) (drop r y) (omega (arith, length-drop r y)) in
+      eZ ∙ ap₂ padd eL (eC ∙ ap (λ (m : List ℕ). padTo 64 (checkCells (p .b) r m)) whole) ∙ pad-sum 64 (take r y) _
+      ∙ ap (padTo 64)
+      (ap (padd (take r y)) (check-cells (p .b) r pos (drop r y) (omega (arith, v .r-most)) (drop-bytes r y h))
+      ∙ sym (remainder-feeds (p .b) r pos (drop r y) (take r y) (omega (arith, v .r-most)) low (take-bytes r y h) (drop-bytes r y h))
+      ∙ ap (remainder r g) (take-append-drop r y))
+
+  rem-short : (y : List ℕ) → length (remainder (p .r) (generator (p .b) (p .r)) y) ≤ 64
+  rem-short y = omega (arith, remainder-length (p .r) (p .b) y, v .r-most)
+
+  -- the register's extent tells a clean block
+  pub extent-clean : (y Z : List ℕ) (e : ℕ) → Z ≡ padTo 64 (remainder (p .r) (generator (p .b) (p .r)) y) → e ≡ extent Z → eqb e 0 ≡ isClean (p .b) (p .r) y
+  unfolding isClean
+  extent-clean y Z e eZ q = ap (λ (k : ℕ). eqb k 0) (q ∙ ap extent eZ ∙ extent-pad 64 (remainder (p .r) (generator (p .b) (p .r)) y) (rem-short y))
+
+  -- the written block is the check cells and the message
+  pub encode-law : (m C : List ℕ) → C ≡ padTo 64 (checkCells (p .b) (p .r) m) → take (p .r) C ++ m ≡ encode (p .b) (p .r) m
+  unfolding encode
+  encode-law m C e =
+      let l : length (checkCells (p .b) (p .r) m) ≡ p .r = check-length (p .b) (p .r) m in
+      ap (λ (u : List ℕ). u ++ m) (ap (take (p .r)) (e ∙ pad-is 64 (checkCells (p .b) (p .r) m) (omega (arith, v .r-most))) ∙ take-at (checkCells (p .b) (p .r) m) _ (p .r) l)
+
+  -- the register of a remainder holds it in its lowest r cells
+  pub remainder-cells : (y Z : List ℕ) → Z ≡ padTo 64 (remainder (p .r) (generator (p .b) (p .r)) y)
+      → (ZeroFrom (p .r) Z) × (take (p .r) Z ≡ remainder (p .r) (generator (p .b) (p .r)) y)
+  remainder-cells y Z e =
+      let R : List ℕ = remainder (p .r) (generator (p .b) (p .r)) y in
+      let l : length R ≡ p .r = remainder-length (p .r) (p .b) y in
+      let q : Z ≡ R ++ replicate (64 - length R) 0 = e ∙ pad-is 64 R (rem-short y) in (
+        (λ k m.
+            let i : length R + (k - p .r) ≡ k = omega arith in
+            ap₂ (λ (c : List ℕ) (j : ℕ). getD c j 0) q (sym i) ∙ getD-append-add R (replicate (64 - length R) 0) (k - p .r) 0 ∙ getD-zeros (64 - length R) (k - p .r)),
+        ap (take (p .r)) q ∙ take-at R _ (p .r) l,
+      )
+
+-- ---- the checker
+
+module _ (p : Profile) (y : List ℕ) where
+  pub check-one : inRange p ≡ false → checks.BadProfile ≡ checkAnswer p y
+  unfolding checkAnswer
+  check-one e = refuse-one p _ _ _ _ e
+
+  pub check-two : inRange p ≡ true → (length y ≡ p .n → ⊥) → checks.WrongLength ≡ checkAnswer p y
+  unfolding checkAnswer
+  check-two v h = refuse-two p _ _ _ _ v (ne-eqb _ _ h)
+
+  pub check-rest : inRange p ≡ true → length y ≡ p .n → (a : Bool) → isClean (p .b) (p .r) y ≡ a → pick a checks.Clean checks.NotClean ≡ checkAnswer p y
+  unfolding checkAnswer
+  check-rest v h a e = ap (λ (b : Bool). pick b checks.Clean checks.NotClean) (sym e) ∙ accept p _ _ _ _ v (eq-eqb _ _ h)
+
+-- ---- the writer
+
+module _ (p : Profile) (m out : List ℕ) where
+  pub write-one : inRange p ≡ false → (writes.BadProfile ≡ writeAnswer p m out) × (out ≡ writeLeaves p m out)
+  unfolding writeAnswer writeLeaves
+  write-one e = (refuse-one p _ _ _ _ e, refuse-one p _ _ _ _ e)
+
+  pub write-two : inRange p ≡ true → writeFits p m out ≡ false → (writes.WrongLength ≡ writeAnswer p m out) × (out ≡ writeLeaves p m out)
+  unfolding writeAnswer writeLeaves
+  write-two v f = (refuse-two p _ _ _ _ v f, refuse-two p _ _ _ _ v f)
+
+  pub write-done : inRange p ≡ true → writeFits p m out ≡ true → (writes.Done ≡ writeAnswer p m out) × (encode (p .b) (p .r) m ≡ writeLeaves p m out)
+  unfolding writeAnswer writeLeaves
+  write-done v f = (accept p _ _ _ _ v f, accept p _ _ _ _ v f)
+
+  pub write-fits : length m ≡ messageLength p → length out ≡ p .n → writeFits p m out ≡ true
+  unfolding writeFits
+  write-fits e f = both-right-length _ _ _ _ e f
+
+  pub message-wrong : (length m ≡ messageLength p → ⊥) → writeFits p m out ≡ false
+  unfolding writeFits
+  message-wrong h = first-wrong _ (length out) _ (p .n) h
+
+  pub block-wrong : length m ≡ messageLength p → (length out ≡ p .n → ⊥) → writeFits p m out ≡ false
+  unfolding writeFits
+  block-wrong e h = second-wrong _ _ _ _ e h
+
+-- ---- the corrector
+
+module _ (p : Profile) (y out : List ℕ) where
+  pub correct-one : inRange p ≡ false → (verdicts.BadProfile ≡ correctAnswer p y out) × (out ≡ correctLeaves p y out)
+  unfolding correctLeaves filled
+  correct-one e =
+      let a : verdicts.BadProfile ≡ correctAnswer p y out = unfold correctAnswer in refuse-one p (correctFits p y out) verdicts.BadProfile verdicts.WrongLength (verdict p y) e in
+      (a, ap (filled p y out) a)
+
+  pub correct-two : inRange p ≡ true → correctFits p y out ≡ false → (verdicts.WrongLength ≡ correctAnswer p y out) × (out ≡ correctLeaves p y out)
+  unfolding correctLeaves filled
+  correct-two v f =
+      let a : verdicts.WrongLength ≡ correctAnswer p y out = unfold correctAnswer in refuse-two p (correctFits p y out) verdicts.BadProfile verdicts.WrongLength (verdict p y) v f in
+      (a, ap (filled p y out) a)
+
+  pub correct-rest : inRange p ≡ true → correctFits p y out ≡ true → (a : Verdict) (o : List ℕ) → a ≡ verdict p y → o ≡ filled p y out (verdict p y)
+      → (a ≡ correctAnswer p y out) × (o ≡ correctLeaves p y out)
+  unfolding correctLeaves
+  correct-rest v f a o ea eo =
+      let q : verdict p y ≡ correctAnswer p y out = unfold correctAnswer in accept p (correctFits p y out) verdicts.BadProfile verdicts.WrongLength (verdict p y) v f in
+      (ea ∙ q, eo ∙ ap (filled p y out) q)
+
+  pub correct-fits : length y ≡ p .n → length out ≡ p .n → correctFits p y out ≡ true
+  unfolding correctFits
+  correct-fits e f = both-right-length _ _ _ _ e f
+
+  pub read-wrong : (length y ≡ p .n → ⊥) → correctFits p y out ≡ false
+  unfolding correctFits
+  read-wrong h = first-wrong _ (length out) _ (p .n) h
+
+  pub out-wrong : length y ≡ p .n → (length out ≡ p .n → ⊥) → correctFits p y out ≡ false
+  unfolding correctFits
+  out-wrong e h = second-wrong _ _ _ _ e h

@@ -1,0 +1,38 @@
+-- What the corrector's private functions say of the search's state. No promise cites this.
+use mathlib.Core.Path.{_≡_}
+use mathlib.Core.Bool.{true, false}
+use mathlib.Core.List.{List}
+use Prim.Native.Nat.{ℕ, _+_}
+use lib.Dec.{ltb, leb}
+use Rattle.lists.specs.Choice.{pick}
+use Rattle.code.specs.Code.{generator}
+use Rattle.code.specs.Run.{backSteps}
+use Rattle.code.specs.Search.{Best, extent, extents, scanned}
+use Rattle.register.specs.Words.{cells}
+use Rattle.register.specs.Register.{padTo}
+use Rattle.register.specs.declared.Register.{Register}
+use Rattle.block.specs.declared.Profile.{Profile}
+use Rattle.block.specs.declared.Found.{Found}
+
+-- the search's state without the shifted remainder
+abbrev pub bestOf : Found → Best
+bestOf k = record { size = k .size; start = k .start; again = k .again }
+
+-- the state after one more start, whose shifted remainder is rest
+unfoldable pub improvedBy : Found → ℕ → ℕ → Register → Found
+improvedBy k n s rest =
+    pick (leb (s + extent (cells rest)) n)
+    (pick (ltb (extent (cells rest)) (k .size)) (record { size = extent (cells rest); start = s; again = false; error = rest })
+    (pick (ltb (k .size) (extent (cells rest))) k (record { size = k .size; start = k .start; again = true; error = k .error })))
+    k
+
+-- the state before start s of a block whose remainder is R: rest is the shifted remainder there
+pub record Searching (p : Profile) (R : List ℕ) (s : ℕ) (rest : Register) (k : Found) : Type 0 where
+  pub shifted : cells rest ≡ padTo 64 (backSteps s (generator (p .b) (p .r)) R)
+  pub best : bestOf k ≡ scanned (extents (generator (p .b) (p .r)) R) (p .n) (p .limit) s
+  pub error : cells (k .error) ≡ padTo 64 (backSteps (k .start) (generator (p .b) (p .r)) R)
+
+-- the state after all starts
+pub record Searched (p : Profile) (R : List ℕ) (k : Found) : Type 0 where
+  pub best : bestOf k ≡ scanned (extents (generator (p .b) (p .r)) R) (p .n) (p .limit) (p .n)
+  pub error : cells (k .error) ≡ padTo 64 (backSteps (k .start) (generator (p .b) (p .r)) R)

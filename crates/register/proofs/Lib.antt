@@ -1,0 +1,12 @@
+pub mod Linear
+pub mod Words
+pub mod Cells
+pub mod Multiples
+pub mod Align
+pub mod Moves
+pub mod LastCell
+pub mod Bits
+pub mod Forward
+pub mod Remainder
+pub mod Backward
+pub mod Generator
