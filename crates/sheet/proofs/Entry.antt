@@ -107,13 +107,12 @@ module _ (p : Profile) (sheet scratch out : List ℕ) where
           → m ≡ joined (p .depth) (messageLength p) (messageAt (p .n) (p .r) (messageLength p) s) → Read r z m
       unfolding readAnswer readScratch readPayload sheetPayload refusing
       read-accepted v a z m e q =
-          let k : p .r + messageLength p ≡ p .n = omega (arith, v .r-below) in
-          (
+          let k : p .r + messageLength p ≡ p .n = omega (arith, v .r-below) in (
             rw (t, f) (h .answer),
             (
               rw (t, f) e,
               rw (t, f, ap isAccepted (sym (h .answer)) ∙ a)
-              (q ∙ ap (λ (b : List ℕ). joined (p .depth) (messageLength p) (messageAt (p .n) (p .r) (messageLength p) b)) (h .words a)
-              ∙ messages-of-rows (p .depth) (p .n) (p .r) (messageLength p) (codeword p sheet) k),
+                  (q ∙ ap (λ (b : List ℕ). joined (p .depth) (messageLength p) (messageAt (p .n) (p .r) (messageLength p) b)) (h .words a)
+                  ∙ messages-of-rows (p .depth) (p .n) (p .r) (messageLength p) (codeword p sheet) k),
             ),
           )

@@ -1,13 +1,13 @@
 -- Laws on lists that are given cell by cell (`tab`), and on what a loop that writes them makes.
 -- Each goes by recursion on the number of cells.
 use mathlib.Core.Path.{_≡_, refl, sym, ap, subst, _∙_}
-use mathlib.Core.List.{List, [], _∷_, _++_, append-assoc}
+use mathlib.Core.List.{List, [], _∷_, _++_, append-assoc, append-nil}
 use Prim.Native.Nat.{ℕ, zero, suc, _+_, _-_, _*_, _<_, _≤_}
 use native.Mathlib.Nat.{not-suc-le-zero, le-of-suc-le-suc}
 use native.Mathlib.Numerals.{add-one}
 use native.Mathlib.Omega.{arith}
-use lib.ListN.{length, set, getD, take, drop, replicate}
-use lib.Seq.{ext-getD, drop-drop, take-at, drop-at}
+use lib.ListN.{length, set, getD, take, drop, drop-of-length-le}
+use lib.Seq.{ext-getD, drop-drop, take-at, drop-at, take-length}
 use Rattle.sheet.specs.Sheet.{tab}
 
 pub length-tab : (n : ℕ) (f : ℕ → ℕ) → length (tab n f) ≡ n
@@ -36,15 +36,9 @@ tab-suc (suc n) f (x ∷ d) l = ap (λ (t : List ℕ). f 0 ∷ t) (tab-suc n (λ
 pub tab-more : (n : ℕ) (f : ℕ → ℕ) (d : List ℕ) → n < length d → set (tab n f ++ drop n d) n (f n) ≡ tab (n + 1) f ++ drop (n + 1) d
 tab-more n f d l = rw add-one (tab-suc n f d l)
 
-copy-suc : (n : ℕ) (s d : List ℕ) → n < length d → n < length s → set (take n s ++ drop n d) n (getD s n 0) ≡ take (suc n) s ++ drop (suc n) d
-copy-suc n s [] l k = absurd (not-suc-le-zero l)
-copy-suc n [] (x ∷ d) l k = absurd (not-suc-le-zero k)
-copy-suc zero (y ∷ s) (x ∷ d) l k = refl
-copy-suc (suc n) (y ∷ s) (x ∷ d) l k = ap (λ (t : List ℕ). y ∷ t) (copy-suc n s d (le-of-suc-le-suc l) (le-of-suc-le-suc k))
-
--- a turn of a loop that copies s from the front
-pub copy-more : (n : ℕ) (s d : List ℕ) → n < length d → n < length s → set (take n s ++ drop n d) n (getD s n 0) ≡ take (n + 1) s ++ drop (n + 1) d
-copy-more n s d l k = rw add-one (copy-suc n s d l k)
+-- a list laid over one of its own length is all that is left
+pub laid-over : (s d : List ℕ) → length d ≡ length s → take (length s) s ++ drop (length s) d ≡ s
+laid-over s d e = let h : length d ≤ length s = omega arith in rw (take-length, drop-of-length-le d h) (append-nil s)
 
 pub tab-add : (a k : ℕ) (f : ℕ → ℕ) → tab (a + k) f ≡ tab a f ++ tab k (λ (j : ℕ). f (a + j))
 tab-add zero k f = rw native.Mathlib.Nat.zero-add (same-tab k f (λ (j : ℕ). f (0 + j)) (λ i l. ap f (sym (native.Mathlib.Nat.zero-add i))))

@@ -9,10 +9,11 @@ use native.Mathlib.Numerals.{add-one}
 use native.Mathlib.Omega.{arith}
 use lib.ListN.{length, getD, take, drop}
 use lib.Dec.{eqb}
+use borrow.Author.Tests.{eq-eqb, ne-eqb}
 use Rattle.lists.proofs.Test.{true-or-false, true-false}
 use Rattle.code.specs.Poly.{Bytes}
 use Rattle.block.specs.Profile.{InRange, messageLength}
-use Rattle.block.specs.Block.{encode, verdict, corrected, correctAnswer, correctLeaves}
+use Rattle.block.specs.Block.{encode, verdict, corrected, correctAnswer, correctLeaves, verdictLength}
 use Rattle.block.specs.declared.Profile.{Profile}
 use Rattle.block.specs.declared.Verdict.{Verdict}
 use Rattle.block.specs.declared.Verdict.the-variants as verdicts
@@ -52,7 +53,7 @@ module _ (p : Profile) (v : InRange p) (sheet : List ℕ) (d : ℕ) where
 
   -- the verdict tells whether the block was changed
   pub changed-is : Bytes sheet → (w : Verdict) → w ≡ blockVerdict p sheet d → isCorrected w ≡ true → changedBy w ≡ changedAt p sheet d
-  unfolding blockVerdict changedAt codeword
+  unfolding blockVerdict changedAt codeword changedBy
   changed-is h (verdicts.Corrected s f) e t = sym (changed-by-length p (readBlock p sheet d) v (block-cells p sheet d h) s f (sym e))
   changed-is h verdicts.BadProfile e t = absurd (true-false t refl)
   changed-is h verdicts.WrongLength e t = absurd (true-false t refl)
@@ -60,11 +61,16 @@ module _ (p : Profile) (v : InRange p) (sheet : List ℕ) (d : ℕ) where
   changed-is h verdicts.Ambiguous e t = absurd (true-false t refl)
 
 pub changed-small : (w : Verdict) → changedBy w ≤ 1
-changed-small (verdicts.Corrected s f) = ⊎-elim (λ e. rw e (omega arith)) (λ e. rw e (omega arith)) (true-or-false (eqb f 0))
-changed-small verdicts.BadProfile = omega arith
-changed-small verdicts.WrongLength = omega arith
-changed-small verdicts.Uncorrectable = omega arith
-changed-small verdicts.Ambiguous = omega arith
+unfolding changedBy
+changed-small w = ⊎-elim (λ e. rw e (omega arith)) (λ e. rw e (omega arith)) (true-or-false (eqb (verdictLength w) 0))
+
+pub changed-none : (w : Verdict) → verdictLength w ≡ 0 → 0 ≡ changedBy w
+unfolding changedBy
+changed-none w e = rw (eq-eqb _ _ e)
+
+pub changed-some : (w : Verdict) → (verdictLength w ≡ 0 → ⊥) → 1 ≡ changedBy w
+unfolding changedBy
+changed-some w n = rw (ne-eqb _ _ n)
 
 module _ (p : Profile) (sheet : List ℕ) where
   pub turn-start : sheetAnswer p sheet ≡ answerFrom p sheet (p .depth - 0) 0 0

@@ -18,7 +18,7 @@ use Rattle.block.specs.Promises.{Cells, Word, OneReached, WrittenBlock}
 use Rattle.block.specs.declared.Profile.{Profile}
 use Rattle.block.specs.declared.Verdict.{Verdict}
 use Rattle.block.proofs.Ranges.{in-range}
-use Rattle.block.proofs.Write.{writes-codeword}
+use Rattle.block.proofs.Encoding.{writes-codeword}
 use Rattle.sheet.specs.declared.Refusal.the-variants.{Block}
 use Rattle.sheet.specs.declared.Reading.{Reading}
 use Rattle.sheet.specs.declared.Reading.the-variants.{Refused, Accepted}

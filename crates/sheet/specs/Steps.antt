@@ -7,9 +7,9 @@ use Prim.Native.Nat.{ℕ, _+_, _*_, _<_}
 use lib.Dec.{eqb}
 use lib.ListN.{getD, take, drop}
 use Rattle.lists.specs.Choice.{pick}
+use Rattle.block.specs.Block.{verdictLength}
 use Rattle.block.specs.declared.Profile.{Profile}
 use Rattle.block.specs.declared.Verdict.{Verdict}
-use Rattle.block.specs.declared.Verdict.the-variants as verdicts
 use Rattle.sheet.specs.declared.Reading.{Reading}
 use Rattle.sheet.specs.Sheet.{joined, isCorrected, isAccepted, blockVerdict, codeword, sheetAnswer}
 
@@ -28,13 +28,9 @@ pub record CorrectedAll (p : Profile) (sheet : List ℕ) (r : Reading) (s : List
   pub answer : r ≡ sheetAnswer p sheet
   pub words : isAccepted r ≡ true → s ≡ joined (p .depth) (p .n) (codeword p sheet)
 
--- 1 where the verdict changed a cell, and else 0
-abbrev pub changedBy : Verdict → ℕ
-changedBy (verdicts.Corrected s f) = pick (eqb f 0) 0 1
-changedBy verdicts.BadProfile = 0
-changedBy verdicts.WrongLength = 0
-changedBy verdicts.Uncorrectable = 0
-changedBy verdicts.Ambiguous = 0
+-- 1 where the verdict's run has a cell, and else 0
+unfoldable pub changedBy : Verdict → ℕ
+changedBy v = pick (eqb (verdictLength v) 0) 0 1
 
 -- where blocks of n cells stand one after the other: the k message cells of block d, after its r check cells
 unfoldable pub messageAt : ℕ → ℕ → ℕ → List ℕ → ℕ → List ℕ

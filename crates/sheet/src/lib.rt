@@ -1,11 +1,9 @@
 // The sheet of document 01: D interleaved blocks, written from a payload and read back with every block corrected.
 ghost use mathlib.Core.Path.{_≡_};
 ghost use Prim.Native.Nat.{ℕ, _+_, _*_, _-_, _≤_, _<_};
-ghost use lib.Dec.{eqb};
 ghost use lib.ListN.{length, replicate};
-ghost use Rattle.lists.specs.Choice.{pick};
 ghost use Rattle.block.specs.Profile.{InRange, messageLength};
-ghost use Rattle.block.specs.Block.{encode, verdictNumber};
+ghost use Rattle.block.specs.Block.{encode};
 ghost use Rattle.sheet.specs.Sheet.{blockOf, joined, writtenSheet, readAnswer, readScratch, readPayload, writeAnswer, writeLeaves, isCorrected, isAccepted, readFits, writeFits, refusalNumber, refusalPlace};
 ghost use Rattle.sheet.specs.Steps.{Laid, CorrectedInto, CorrectedAll, changedBy, messageAt};
 use block::Profile;
@@ -36,7 +34,7 @@ impl Refusal {
         match self {
             Refusal::BadProfile => 1,
             Refusal::WrongLength => 2,
-            Refusal::Block { number: _, verdict } => verdict_number(verdict),
+            Refusal::Block { number: _, verdict } => block::verdict_number(verdict),
         }
     }
 
@@ -49,21 +47,6 @@ impl Refusal {
             Refusal::WrongLength => 0,
             Refusal::Block { number, verdict: _ } => number,
         }
-    }
-}
-
-fn verdict_number(v: Verdict) -> usize
-    ensures { λ r. ⌜ r ≡ verdictNumber v ⌝ }
-{
-    match v {
-        Verdict::BadProfile => 1,
-        Verdict::WrongLength => 2,
-        Verdict::Uncorrectable => 3,
-        Verdict::Ambiguous => 4,
-        Verdict::Corrected {
-            start: _,
-            length: _,
-        } => 0,
     }
 }
 
@@ -86,19 +69,7 @@ fn is_corrected(v: Verdict) -> bool
 fn changed_by(v: Verdict) -> usize
     ensures { λ r. ⌜ r ≡ changedBy v ⌝ }
 {
-    match v {
-        Verdict::BadProfile => 0,
-        Verdict::WrongLength => 0,
-        Verdict::Uncorrectable => 0,
-        Verdict::Ambiguous => 0,
-        Verdict::Corrected { start: _, length } => one_if_any(length),
-    }
-}
-
-fn one_if_any(length: usize) -> usize
-    ensures { λ r. ⌜ r ≡ pick (eqb length 0) 0 1 ⌝ }
-{
-    if length == 0 {
+    if block::verdict_length(v) == 0 {
         return 0;
     }
     1
@@ -124,17 +95,6 @@ fn gather(sheet: &[u8], d: usize, depth: usize, out: &mut [u8])
         out[i] = sheet[at];
         i += 1;
         at += depth;
-    }
-}
-
-fn copy(from: &[u8], to: &mut [u8])
-    requires { ⌜ length (now to) ≡ length (now from) ⌝ }
-    ensures { λ _. ⌜ now (to .exit) ≡ now (from .entry) ⌝ }
-{
-    let mut i = 0;
-    while i < to.len() {
-        to[i] = from[i];
-        i += 1;
     }
 }
 
@@ -208,7 +168,7 @@ fn copy_messages(p: Profile, blocks: &[u8], payload: &mut [u8])
     while d < depth {
         let from = d * n + r;
         let to = d * k;
-        copy(&blocks[from..from + k], &mut payload[to..to + k]);
+        bytes::copy(&blocks[from..from + k], &mut payload[to..to + k]);
         d += 1;
     }
 }

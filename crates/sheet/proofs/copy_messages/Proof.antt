@@ -8,6 +8,7 @@ use borrow.Rule.Slice.PartMut.{midOf, mid-len, same-len-mid}
 use Rattle.block.specs.Profile.{messageLength}
 use Rattle.sheet.specs.Sheet.{joined}
 use Rattle.sheet.specs.Steps.{messageAt}
+use Rattle.sheet.proofs.Lists.{laid-over}
 use Rattle.sheet.proofs.Places.{part-inside, cells-inside}
 use Rattle.sheet.proofs.Apart.{rows-start, rows-more, rows-end}
 use Rattle.sheet.proofs.copy_messages.Statement.{statement}
@@ -57,6 +58,9 @@ module _ (c : tie.In-loop Inv-loop μ-loop) where
   part-long : length (midOf to (to + k - to) (c .before .loop .payload)) ≡ k
   part-long = mid-len to (to + k) (c .before .loop .payload) to-inside ∙ to-span
 
+  read-long : length (midOf from (from + k - from) (c .before .before .before .before .before .args .blocks .now)) ≡ k
+  read-long = mid-len from (from + k) (c .before .before .before .before .before .args .blocks .now) from-inside ∙ from-span
+
 message-length-requires : tie.Need-message-length-requires Inv-loop μ-loop
 message-length-requires c κs = tt
 
@@ -97,9 +101,7 @@ part-copy-end-2 : tie.Need-part-copy-end-2 Inv-loop μ-loop
 part-copy-end-2 c = omega (arith, to-inside (c .before))
 
 copy-requires : tie.Need-copy-requires Inv-loop μ-loop
-copy-requires c κs =
-    let i = c .before .before in
-    part-long i ∙ sym (mid-len (from i) (from i + k i) (i .before .before .before .before .before .args .blocks .now) (from-inside i) ∙ from-span i)
+copy-requires c κs = omega (arith, part-long (c .before .before), read-long (c .before .before))
 
 add-d : tie.Need-add-d Inv-loop μ-loop
 add-d c = omega arith
@@ -118,7 +120,9 @@ loop-again c =
       omega arith,
       same-len-mid (to i) (to i + k i - to i) (l .payload) ys kept ∙ l .inv .1,
       rows-more (k i) (l .d) (messageAt (a .p .n) (a .p .r) (k i) (a .blocks .now)) (a .payload .now) (l .payload) (l .inv .2) ys (omega (arith, to-inside i)) (kept ∙ part-long i)
-          (c .before .before .copy .ensures ∙ ap (λ (m : ℕ). take m (drop (from i) (a .blocks .now))) (from-span i)),
+          (c .before .before .copy .ensures .1
+          ∙ laid-over (midOf (from i) (from i + k i - from i) (a .blocks .now)) (midOf (to i) (to i + k i - to i) (l .payload)) (part-long i ∙ sym (read-long i))
+          ∙ ap (λ (m : ℕ). take m (drop (from i) (a .blocks .now))) (from-span i)),
     )
 
 same-length : tie.Need-same-length Inv-loop μ-loop

@@ -107,8 +107,7 @@ loop-again c =
     let ys = b .last .1 .1 .1 .0 in
     let kept : length ys ≡ length (midOf (at i) (at i + n i - at i) (l .scratch)) = b .kept .1 .1 .1 .0 in
     let yes : isCorrected (b .result) ≡ true = sym (c .before .before .is-corrected .ensures) ∙ not-false _ (c .before .if1 .left) in
-    let bytes : Bytes (a .sheet .now) = bytes-of (a .sheet .now) (λ j. let z = i .before .before .before .shared-slice-known .given j in omega (arith, z)) in
-    (
+    let bytes : Bytes (a .sheet .now) = bytes-of (a .sheet .now) (λ j. let z = i .before .before .before .shared-slice-known .given j in omega (arith, z)) in (
       omega (arith, i .loop-test .taken),
       same-len-mid (at i) (at i + n i - at i) (l .scratch) ys kept ∙ l .inv .1,
       omega (arith, changed-small (b .result), c .changed-by .ensures, l .inv),
