@@ -26,7 +26,7 @@ fn print_refusal(refusal: Refusal) {
     io::write_all(STDOUT_FILENO, b"\n");
 }
 
-fn print_reading(reading: Reading) {
+fn print_answer(reading: Reading) {
     match reading {
         Reading::Refused(refusal) => print_refusal(refusal),
         Reading::Accepted { changed } => {
@@ -35,6 +35,15 @@ fn print_reading(reading: Reading) {
             io::write_all(STDOUT_FILENO, b"\n");
         }
     }
+}
+
+// The answer, and what stands in both buffers afterwards.
+fn print_reading(reading: Reading, payload: &[u8], scratch: &[u8]) {
+    print_answer(reading);
+    io::write_all(STDOUT_FILENO, b"payload");
+    print_bytes(payload);
+    io::write_all(STDOUT_FILENO, b"scratch");
+    print_bytes(scratch);
 }
 
 // Payload 1 0 as two blocks of four cells.
@@ -65,11 +74,8 @@ fn read_worked(cells: [u8; 24], limit: usize) {
     };
     let mut scratch = [9u8; 24];
     let mut payload = [9u8; 8];
-    print_reading(sheet::read(p, &cells, &mut scratch, &mut payload));
-    io::write_all(STDOUT_FILENO, b"payload");
-    print_bytes(&payload);
-    io::write_all(STDOUT_FILENO, b"scratch");
-    print_bytes(&scratch);
+    let reading = sheet::read(p, &cells, &mut scratch, &mut payload);
+    print_reading(reading, &payload, &scratch);
 }
 
 // Two blocks of four cells: 8 14 7 1, and 8 14 0 0, which is refused.
@@ -84,11 +90,8 @@ fn read_small(limit: usize) {
     let cells = [8u8, 8, 14, 14, 7, 0, 1, 0];
     let mut scratch = [9u8; 8];
     let mut payload = [9u8; 2];
-    print_reading(sheet::read(p, &cells, &mut scratch, &mut payload));
-    io::write_all(STDOUT_FILENO, b"payload");
-    print_bytes(&payload);
-    io::write_all(STDOUT_FILENO, b"scratch");
-    print_bytes(&scratch);
+    let reading = sheet::read(p, &cells, &mut scratch, &mut payload);
+    print_reading(reading, &payload, &scratch);
 }
 
 // The first of them alone: too short a sheet for two blocks.
@@ -102,22 +105,67 @@ fn read_short() {
     };
     let mut scratch = [9u8; 8];
     let mut payload = [9u8; 2];
-    print_reading(sheet::read(p, &[8, 14, 7, 1], &mut scratch, &mut payload));
-    io::write_all(STDOUT_FILENO, b"scratch");
-    print_bytes(&scratch);
+    let reading = sheet::read(p, &[8, 14, 7, 1], &mut scratch, &mut payload);
+    print_reading(reading, &payload, &scratch);
 }
 
 fn main() {
     write_small();
     read_worked(
         [
-            160, 152, 14, 0, 2, 6, 64, 4, 240, 212, 9, 0, 3, 5, 96, 6, 80, 76, 7, 0, 1, 3, 32, 2,
+            160,
+            152,
+            14,
+            0,
+            2,
+            6,
+            64,
+            4,
+            240,
+            212,
+            9,
+            0,
+            3,
+            5,
+            96,
+            6,
+            80,
+            76,
+            7,
+            0,
+            1,
+            3,
+            32,
+            2,
         ],
         1,
     );
     read_worked(
         [
-            0, 0, 0, 0, 0, 0, 0, 0, 240, 212, 9, 0, 3, 5, 96, 6, 80, 76, 7, 0, 1, 3, 32, 2,
+            0,
+            0,
+            0,
+            0,
+            0,
+            0,
+            0,
+            0,
+            240,
+            212,
+            9,
+            0,
+            3,
+            5,
+            96,
+            6,
+            80,
+            76,
+            7,
+            0,
+            1,
+            3,
+            32,
+            2,
         ],
         1,
     );

@@ -52,8 +52,7 @@ loop-again c =
     let s : (l .i + 1) * a .depth ≡ l .i * a .depth + a .depth = rw (add-one, suc-mul) in
     let h : l .i < length (a .out .now) = omega arith in
     let w = blockOf (a .depth) (length (a .out .now)) (a .sheet .now) (a .d) in
-    let e = block-length (a .depth) (length (a .out .now)) (a .sheet .now) (a .d) in
-    (
+    let e = block-length (a .depth) (length (a .out .now)) (a .sheet .now) (a .d) in (
       omega arith,
       simp length-set (l .inv .1),
       omega (arith, l .inv .2, s),

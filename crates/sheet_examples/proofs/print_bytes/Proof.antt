@@ -1,55 +1,46 @@
+-- The index stays within the slice and rises to its length.
+use borrow.Author.Needs.{needs}
+use Prim.Native.Nat.{_≤_, _-_}
+use native.Mathlib.Omega.{arith}
+use lib.ListN.{length}
 use Rattle.sheet_examples.proofs.print_bytes.Statement.{statement}
 use Rattle.sheet_examples.proofs.print_bytes.Tie as tie
-use Rattle.sheet_examples.proofs.print_bytes.Reads as reads
-use Rattle.sheet_examples.proofs.print_bytes.Lts as lts
-use Rattle.io.proofs.write_all.Reads as write-all-reads
-use Rattle.sheet_examples.proofs.print_number.Reads as print-number-reads
 
 abbrev Inv-loop : tie.InvT-loop
-Inv-loop bytes i₀ t3 i = ?
+Inv-loop bytes i₀ t3 i = i ≤ length bytes
 
 abbrev μ-loop : tie.MeasureT-loop
-μ-loop bytes i₀ t3 i = ?
+μ-loop bytes i₀ t3 i = length bytes - i
 
--- src/main.rt:15:5
 loop-holds : tie.Need-loop-holds Inv-loop μ-loop
-loop-holds c = ?
+loop-holds c = search needs
 
--- src/main.rt:16:22
 shared-slice-read-print-number : tie.Need-shared-slice-read-print-number Inv-loop μ-loop
-shared-slice-read-print-number c = ?
+shared-slice-read-print-number c = search needs
 
--- src/main.rt:16:22
 cast-print-number : tie.Need-cast-print-number Inv-loop μ-loop
-cast-print-number c = ?
+cast-print-number c = omega (arith, c .shared-slice-known2 .given (c .before .before .loop .i))
 
--- src/main.rt:16:9
 print-number-requires : tie.Need-print-number-requires Inv-loop μ-loop
-print-number-requires c κs = ?
+print-number-requires c κs = search needs
 
--- src/main.rt:17:9
 add-i : tie.Need-add-i Inv-loop μ-loop
-add-i c = ?
+add-i c = search needs
 
--- src/main.rt:15:5
 loop-less : tie.Need-loop-less Inv-loop μ-loop
-loop-less c = ?
+loop-less c = search needs
 
--- src/main.rt:15:5
 loop-again : tie.Need-loop-again Inv-loop μ-loop
-loop-again c = ?
+loop-again c = search needs
 
--- src/main.rt:19:34
 slice-aggregate-write-all : tie.Need-slice-aggregate-write-all Inv-loop μ-loop
-slice-aggregate-write-all c = ?
+slice-aggregate-write-all c = search needs
 
--- src/main.rt:19:5
 write-all-requires : tie.Need-write-all-requires Inv-loop μ-loop
-write-all-requires c κs = ?
+write-all-requires c κs = search needs
 
--- src/main.rt:13:1
 returns : tie.Need-returns Inv-loop μ-loop
-returns c = ?
+returns c = search needs
 
 pub print-bytes-spec : {M : Type 1} → statement M
 print-bytes-spec =
