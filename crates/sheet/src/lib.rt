@@ -200,10 +200,10 @@ fn correct_blocks(p: Profile, sheet: &[u8], scratch: &mut [u8]) -> Reading
     ensures { λ r. ⌜ CorrectedAll p (now (sheet .entry)) r (now (scratch .exit)) ⌝ }
 {
     let n = p.n;
-    let depth = p.depth;
+    let blocks = p.depth;
     let mut changed: usize = 0;
     let mut d: usize = 0;
-    while d < depth {
+    while d < blocks {
         let a = d * n;
         let v = correct_block(p, sheet, d, &mut scratch[a..a + n]);
         if !is_corrected(v) {

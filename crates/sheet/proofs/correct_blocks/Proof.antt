@@ -19,15 +19,15 @@ use Rattle.sheet.proofs.correct_blocks.Statement.{statement}
 use Rattle.sheet.proofs.correct_blocks.Tie as tie
 
 abbrev Inv-loop : tie.InvT-loop
-Inv-loop p sheet scratch₀ n depth changed₀ d₀ scratch changed d =
-    (d ≤ depth)
+Inv-loop p sheet scratch₀ n blocks changed₀ d₀ scratch changed d =
+    (d ≤ blocks)
     × (length scratch ≡ length scratch₀)
     × (changed ≤ d)
     × (sheetAnswer p sheet ≡ answerFrom p sheet (p .depth - d) d changed)
     × (scratch ≡ joined d n (codeword p sheet) ++ drop (d * n) scratch₀)
 
 abbrev μ-loop : tie.MeasureT-loop
-μ-loop p sheet scratch₀ n depth changed₀ d₀ scratch changed d = depth - d
+μ-loop p sheet scratch₀ n blocks changed₀ d₀ scratch changed d = blocks - d
 
 -- the part of block d lies within the scratch, and has n cells
 module _ (c : tie.In-loop Inv-loop μ-loop) where
