@@ -1,10 +1,9 @@
 -- Laws on lists that are given cell by cell (`tab`), and on what a loop that writes them makes.
 -- Each goes by recursion on the number of cells.
 use mathlib.Core.Path.{_≡_, refl, sym, ap, subst, _∙_}
-use mathlib.Core.List.{List, [], _∷_, _++_, append-assoc}
-use Prim.Native.Nat.{ℕ, zero, suc, _+_, _-_, _*_, _<_, _≤_}
-use native.Mathlib.Nat.{not-suc-le-zero, le-of-suc-le-suc}
-use native.Mathlib.Omega.{arith}
+use mathlib.Core.List.{List, _∷_, _++_, append-assoc}
+use Prim.Native.Nat.{ℕ, zero, suc, _+_, _-_, _<_, _≤_}
+use native.Mathlib.Nat.{not-suc-le-zero, le-of-suc-le-suc, suc-add, zero-add}
 use lib.ListN.{length, getD, take, drop, replicate}
 use lib.Seq.{ext-getD, drop-drop, take-at, drop-at, length-take-le}
 use Rattle.sheet.specs.Sheet.{tab}
@@ -27,11 +26,11 @@ pub same-tab : (n : ℕ) (f g : ℕ → ℕ) → ((i : ℕ) → i < n → f i �
 same-tab n f g h = is-tab n g (tab n f) (length-tab n f) (λ i l. getD-tab n f i l ∙ h i l)
 
 pub tab-add : (a k : ℕ) (f : ℕ → ℕ) → tab (a + k) f ≡ tab a f ++ tab k (λ (j : ℕ). f (a + j))
-tab-add zero k f = rw native.Mathlib.Nat.zero-add (same-tab k f (λ (j : ℕ). f (0 + j)) (λ i l. ap f (sym (native.Mathlib.Nat.zero-add i))))
+tab-add zero k f = rw zero-add (same-tab k f (λ (j : ℕ). f (0 + j)) (λ i l. ap f (sym (zero-add i))))
 tab-add (suc a) k f =
-    rw native.Mathlib.Nat.suc-add
+    rw suc-add
     (ap (λ (t : List ℕ). f 0 ∷ t)
-    (tab-add a k (λ (i : ℕ). f (suc i)) ∙ ap (λ (t : List ℕ). tab a (λ (i : ℕ). f (suc i)) ++ t) (same-tab k (λ (j : ℕ). f (suc (a + j))) (λ (j : ℕ). f (suc a + j)) (λ i l. ap f (sym (native.Mathlib.Nat.suc-add a i))))))
+    (tab-add a k (λ (i : ℕ). f (suc i)) ∙ ap (λ (t : List ℕ). tab a (λ (i : ℕ). f (suc i)) ++ t) (same-tab k (λ (j : ℕ). f (suc (a + j))) (λ (j : ℕ). f (suc a + j)) (λ i l. ap f (sym (suc-add a i))))))
 
 -- a turn of a loop that stores the k cells w from cell a on
 pub part-more : (a k : ℕ) (f : ℕ → ℕ) (o w : List ℕ) → a ≤ length o → length w ≡ k → ((j : ℕ) → j < k → getD w j 0 ≡ f (a + j))

@@ -1,20 +1,18 @@
 -- What is left to answer is what was to be answered, and the codewords of the blocks before d stand in the scratch. Each turn adds one
 -- block or ends with its refusal; when no block is left, all codewords stand there.
-use Prim.Native.Nat.{ℕ, _+_, _*_, _-_, _≤_, _<_}
+use Prim.Native.Nat.{ℕ, _+_, _*_, _-_, _≤_}
 use native.Mathlib.Omega.{arith}
-use mathlib.Core.Path.{_≡_, refl, sym, ap, _∙_}
-use mathlib.Core.Bool.{true, false}
-use mathlib.Core.List.{List, _++_}
-use lib.ListN.{length, getD, drop}
+use mathlib.Core.Path.{_≡_, refl, sym, _∙_}
+use mathlib.Core.Bool.{true}
+use mathlib.Core.List.{_++_}
+use lib.ListN.{length, drop}
 use borrow.Author.Tests.{not-true, not-false}
 use borrow.Rule.Slice.PartMut.{midOf, mid-len, same-len-mid}
-use Rattle.lists.proofs.Test.{true-false}
 use Rattle.code.specs.Poly.{Bytes}
-use Rattle.sheet.specs.Sheet.{joined, blockVerdict, codeword, isCorrected, changedAt, answerFrom, sheetAnswer}
-use Rattle.sheet.specs.Steps.{CorrectedInto, changedBy}
+use Rattle.sheet.specs.Sheet.{joined, codeword, isCorrected, answerFrom, sheetAnswer}
 use Rattle.sheet.proofs.Places.{part-inside}
 use Rattle.sheet.proofs.Apart.{rows-start, rows-more, rows-end}
-use Rattle.sheet.proofs.Steps.{bytes-of, changed-is, changed-small, turn-start, turn-on, turn-stop, turn-end}
+use Rattle.sheet.proofs.Steps.{bytes-of, changed-small, turn-start, turn-on, turn-stop, turn-end}
 use Rattle.sheet.proofs.correct_blocks.Statement.{statement}
 use Rattle.sheet.proofs.correct_blocks.Tie as tie
 
