@@ -1,0 +1,12 @@
+pub mod Lists
+pub mod Places
+pub mod Apart
+pub mod Verdicts
+pub mod Reader
+pub mod Theorems
+pub mod Runs
+pub mod Promise
+pub mod Examples
+pub mod Entry
+pub mod Blocks
+pub mod Steps

@@ -1,0 +1,88 @@
+-- What the verdict on one block says, from the block's promises alone, and when two lists differ.
+-- A block is uncorrectable, ambiguous or corrected; the codeword is the read block exactly where the run has no cell.
+use mathlib.Core.Path.{_≡_, refl, sym, ap, ap₂, subst, _∙_}
+use mathlib.Core.Logic.{_↔_, _≢_, _⊎_, inl, inr, ⊎-elim}
+use mathlib.Core.Bool.{Bool, true, false}
+use mathlib.Core.List.{List, [], _∷_}
+use Prim.Native.Nat.{ℕ, zero, suc, _+_, _≤_, _<_}
+use native.Mathlib.Omega.{arith}
+use lib.Dec.{eqb}
+use lib.ListN.{length, getD}
+use lib.Seq.{ext-getD}
+use borrow.Author.Tests.{eq-eqb, ne-eqb, eqb-true, eqb-false}
+use Rattle.lists.specs.Choice.{pick}
+use Rattle.lists.proofs.Test.{lt-or-ge, zero-or, true-or-false, true-false}
+use Rattle.code.specs.Run.{Reaches}
+use Rattle.block.specs.Profile.{InRange}
+use Rattle.block.specs.Block.{verdict, corrected}
+use Rattle.block.specs.Promises.{Cells, Reached, NoneReached, TwoReached, OneReached}
+use Rattle.block.specs.declared.Profile.{Profile}
+use Rattle.block.specs.declared.Verdict.{Verdict}
+use Rattle.block.specs.declared.Verdict.the-variants.{Uncorrectable, Ambiguous, Corrected}
+use Rattle.block.proofs.Promises.{exactly-one, uncorrectable-iff, ambiguous-iff, corrected-iff}
+use Rattle.sheet.specs.Sheet.{isCorrected, differ}
+use Rattle.sheet.specs.Theorems.{DifferIff}
+
+-- ---- lists that differ
+
+pub differ-self : (c : List ℕ) → differ c c ≡ false
+unfolding differ
+differ-self [] = refl
+differ-self (x ∷ c) = rw (eq-eqb x x refl) (differ-self c)
+
+pub differ-same : (c d : List ℕ) → differ c d ≡ false → c ≡ d
+unfolding differ
+differ-same [] [] h = refl
+differ-same [] (y ∷ d) h = absurd (true-false refl h)
+differ-same (x ∷ c) [] h = absurd (true-false refl h)
+differ-same (x ∷ c) (y ∷ d) h =
+    ⊎-elim (λ e. ap₂ (λ (z : ℕ) (l : List ℕ). z ∷ l) (eqb-true x y e) (differ-same c d (rw e at h)))
+    (λ e. absurd (true-false refl (rw e at h))) (true-or-false (eqb x y))
+
+pub differ-not : (c d : List ℕ) → c ≢ d → differ c d ≡ true
+differ-not c d n = ⊎-elim (λ e. e) (λ e. absurd (n (differ-same c d e))) (true-or-false (differ c d))
+
+pub differ-iff : DifferIff
+differ-iff c d = (
+  ((λ e q. true-false e (ap (differ c) (sym q) ∙ differ-self c)), differ-not c d),
+  (differ-same c d, (λ q. ap (differ c) (sym q) ∙ differ-self c)),
+)
+
+-- ---- one block
+
+-- a run of no cell reaches only what was read
+pub no-cell : (n r b : ℕ) (y : List ℕ) (s : ℕ) (c : List ℕ) → length y ≡ n → Reaches n r b y s 0 c → c ≡ y
+no-cell n r b y s c e h =
+    ext-getD 0 c y (h .codeword .cells ∙ sym e)
+    (λ i l. sym (h .agree i (subst (λ (m : ℕ). i < m) (h .codeword .cells) l) (⊎-elim (λ a. inl a) (λ a. inr (omega arith)) (lt-or-ge i s))))
+
+module _ (p : Profile) (y : List ℕ) (v : InRange p) (h : Cells p y) where
+  pub one-corrected : (s f : ℕ) (c : List ℕ) → OneReached p y s f c → (isCorrected (verdict p y) ≡ true) × (corrected p y ≡ c)
+  one-corrected s f c o = let q = corrected-iff p y s f c v h .1 o in (rw (q .0), q .1)
+
+  pub none-refused : NoneReached p y → (verdict p y ≡ Uncorrectable) × (isCorrected (verdict p y) ≡ false)
+  none-refused n = let q = uncorrectable-iff p y v h .1 n in (q, rw q)
+
+  pub two-refused : TwoReached p y → (verdict p y ≡ Ambiguous) × (isCorrected (verdict p y) ≡ false)
+  two-refused t = let q = ambiguous-iff p y v h .1 t in (q, rw q)
+
+  -- a verdict that is no refusal has its codeword
+  pub corrected-one : isCorrected (verdict p y) ≡ true → (s f : ℕ) × OneReached p y s f (corrected p y)
+  corrected-one t =
+      ⊎-elim (λ n. absurd (true-false t (none-refused n .1)))
+      (⊎-elim (λ z. absurd (true-false t (two-refused z .1)))
+      (λ o. (o .0, o .1, subst (OneReached p y (o .0) (o .1)) (sym (one-corrected (o .0) (o .1) (o .2) (o .3) .1)) (o .3)))) (exactly-one p y v h .some)
+
+  pub refused-reason : isCorrected (verdict p y) ≡ false
+      → ((verdict p y ≡ Uncorrectable) × NoneReached p y) ⊎ ((verdict p y ≡ Ambiguous) × TwoReached p y)
+  refused-reason t =
+      ⊎-elim (λ n. inl (none-refused n .0, n))
+      (⊎-elim (λ z. inr (two-refused z .0, z)) (λ o. absurd (true-false (one-corrected (o .0) (o .1) (o .2) (o .3) .0) t))) (exactly-one p y v h .some)
+
+  -- the number of cells of the run tells whether the block was changed
+  pub changed-by-length : (s f : ℕ) → verdict p y ≡ Corrected s f → _≡_ {A = ℕ} (pick (differ (corrected p y) y) 1 0) (pick (eqb f 0) 0 1)
+  changed-by-length s f q =
+      let o : OneReached p y s f (corrected p y) = corrected-iff p y s f (corrected p y) v h .0 (q, refl) in
+      ⊎-elim
+      (λ z. rw (differ-iff (corrected p y) y .1 .1 (no-cell (p .n) (p .r) (p .b) y s (corrected p y) (h .count) (subst (λ (x : ℕ). Reached p y s x (corrected p y)) z (o .reached))), eq-eqb f 0 z))
+      (λ z. rw (differ-not (corrected p y) y (λ e. z (o .clean e .1)), ne-eqb f 0 z)) (zero-or f)

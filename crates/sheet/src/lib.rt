@@ -1,0 +1,292 @@
+// The sheet of document 01: D interleaved blocks, written from a payload and read back with every block corrected.
+ghost use mathlib.Core.Path.{_≡_};
+ghost use Prim.Native.Nat.{ℕ, _+_, _*_, _-_, _≤_, _<_};
+ghost use lib.ListN.{length, replicate};
+ghost use Rattle.block.specs.Profile.{InRange, messageLength};
+ghost use Rattle.block.specs.Block.{encode};
+ghost use Rattle.sheet.specs.Sheet.{blockOf, joined, writtenSheet, readAnswer, readScratch, readPayload, writeAnswer, writeLeaves, isCorrected, isAccepted, readFits, writeFits, refusalNumber, refusalPlace};
+ghost use Rattle.sheet.specs.Steps.{Laid, CorrectedInto, CorrectedAll, changedBy, messageAt};
+use block::Profile;
+use block::Verdict;
+use block::Written;
+
+/// Why a sheet is refused. Document 01 calls the first two misprint and wrong frame; the third has the block's number and its verdict.
+pub enum Refusal {
+    BadProfile,
+    WrongLength,
+    Block {
+        number: usize,
+        verdict: block::Verdict,
+    },
+}
+
+/// What reading a sheet answers: a refusal, or the number of blocks changed.
+pub enum Reading {
+    Refused(Refusal),
+    Accepted { changed: usize },
+}
+
+impl Refusal {
+    /// Document 01's number of a refusal.
+    pub fn number(self) -> usize
+        ensures { λ r. ⌜ r ≡ refusalNumber self ⌝ }
+    {
+        match self {
+            Refusal::BadProfile => 1,
+            Refusal::WrongLength => 2,
+            Refusal::Block { number: _, verdict } => block::verdict_number(verdict),
+        }
+    }
+
+    /// Its place: the number of the block that is refused, and else 0.
+    pub fn place(self) -> usize
+        ensures { λ r. ⌜ r ≡ refusalPlace self ⌝ }
+    {
+        match self {
+            Refusal::BadProfile => 0,
+            Refusal::WrongLength => 0,
+            Refusal::Block { number, verdict: _ } => number,
+        }
+    }
+}
+
+fn is_corrected(v: Verdict) -> bool
+    ensures { λ r. ⌜ r ≡ isCorrected v ⌝ }
+{
+    match v {
+        Verdict::BadProfile => false,
+        Verdict::WrongLength => false,
+        Verdict::Uncorrectable => false,
+        Verdict::Ambiguous => false,
+        Verdict::Corrected {
+            start: _,
+            length: _,
+        } => true,
+    }
+}
+
+// 1 where the verdict changed a cell, and else 0.
+fn changed_by(v: Verdict) -> usize
+    ensures { λ r. ⌜ r ≡ changedBy v ⌝ }
+{
+    if block::verdict_length(v) == 0 {
+        return 0;
+    }
+    1
+}
+
+fn is_accepted(answer: Reading) -> bool
+    ensures { λ r. ⌜ r ≡ isAccepted answer ⌝ }
+{
+    match answer {
+        Reading::Refused(_) => false,
+        Reading::Accepted { changed: _ } => true,
+    }
+}
+
+// The cells d, D + d, 2 D + d, .. of the sheet.
+fn gather(sheet: &[u8], d: usize, depth: usize, out: &mut [u8])
+    requires { ⌜ (d < depth) × (depth ≤ 16) × (length (now sheet) ≡ depth * length (now out)) ⌝ }
+    ensures { λ _. ⌜ now (out .exit) ≡ blockOf depth (length (now (out .entry))) (now (sheet .entry)) d ⌝ }
+{
+    let mut at = d;
+    let mut i = 0;
+    while i < out.len() {
+        out[i] = sheet[at];
+        i += 1;
+        at += depth;
+    }
+}
+
+fn clear(s: &mut [u8])
+    ensures { λ _. ⌜ now (s .exit) ≡ replicate (length (now (s .entry))) 0 ⌝ }
+{
+    let mut i = 0;
+    while i < s.len() {
+        s[i] = 0;
+        i += 1;
+    }
+}
+
+// Lays the cells of a block at d, D + d, 2 D + d, .. of the sheet.
+fn scatter(word: &[u8], d: usize, depth: usize, sheet: &mut [u8])
+    requires { ⌜ (d < depth) × (depth ≤ 16) × (length (now sheet) ≡ depth * length (now word)) ⌝ }
+    ensures { λ _. ⌜ Laid depth (length (now (word .entry))) d (now (word .entry)) (now (sheet .entry)) (now (sheet .exit)) ⌝ }
+{
+    let mut at = d;
+    let mut i = 0;
+    while i < word.len() {
+        sheet[at] = word[i];
+        i += 1;
+        at += depth;
+    }
+}
+
+// Whether the reader's buffers have their lengths.
+fn read_fits(p: Profile, sheet: usize, scratch: usize, payload: usize) -> bool
+    requires { ⌜ InRange p ⌝ }
+    ensures { λ r. ⌜ r ≡ readFits p sheet scratch payload ⌝ }
+{
+    let n = p.n;
+    let depth = p.depth;
+    let k = p.message_length();
+    let cells = depth * n;
+    if sheet != cells {
+        return false;
+    }
+    if scratch != cells {
+        return false;
+    }
+    payload == depth * k
+}
+
+// Whether the writer's buffers have their lengths.
+fn write_fits(p: Profile, payload: usize, sheet: usize) -> bool
+    requires { ⌜ InRange p ⌝ }
+    ensures { λ r. ⌜ r ≡ writeFits p payload sheet ⌝ }
+{
+    let n = p.n;
+    let depth = p.depth;
+    let k = p.message_length();
+    if payload != depth * k {
+        return false;
+    }
+    sheet == depth * n
+}
+
+// The message cells of D blocks of n cells, one after the other.
+fn copy_messages(p: Profile, blocks: &[u8], payload: &mut [u8])
+    requires { ⌜ InRange p ⌝ }
+    requires { ⌜ (length (now blocks) ≡ p .depth * p .n) × (length (now payload) ≡ p .depth * messageLength p) ⌝ }
+    ensures { λ _. ⌜ now (payload .exit) ≡ joined (p .depth) (messageLength p) (messageAt (p .n) (p .r) (messageLength p) (now (blocks .entry))) ⌝ }
+{
+    let n = p.n;
+    let r = p.r;
+    let depth = p.depth;
+    let k = p.message_length();
+    let mut d: usize = 0;
+    while d < depth {
+        let from = d * n + r;
+        let to = d * k;
+        bytes::copy(&blocks[from..from + k], &mut payload[to..to + k]);
+        d += 1;
+    }
+}
+
+// Block d of the sheet, gathered into `word` and corrected into its part of the scratch.
+fn correct_with(p: Profile, sheet: &[u8], d: usize, word: &mut [u8], part: &mut [u8]) -> Verdict
+    requires { ⌜ InRange p ⌝ }
+    requires { ⌜ (d < p .depth) × (length (now sheet) ≡ p .depth * p .n) × (length (now part) ≡ p .n) × (length (now word) ≡ p .n) ⌝ }
+    ensures { λ r. ⌜ CorrectedInto p (now (sheet .entry)) d r (now (part .exit)) ⌝ }
+{
+    gather(sheet, d, p.depth, word);
+    block::correct(p, word, part)
+}
+
+fn correct_block(p: Profile, sheet: &[u8], d: usize, part: &mut [u8]) -> Verdict
+    requires { ⌜ InRange p ⌝ }
+    requires { ⌜ (d < p .depth) × (length (now sheet) ≡ p .depth * p .n) × (length (now part) ≡ p .n) ⌝ }
+    ensures { λ r. ⌜ CorrectedInto p (now (sheet .entry)) d r (now (part .exit)) ⌝ }
+{
+    let mut word = [0u8; 255];
+    let n = p.n;
+    correct_with(p, sheet, d, &mut word[..n], part)
+}
+
+// Every block of the sheet, corrected into the scratch, or the first that is refused.
+fn correct_blocks(p: Profile, sheet: &[u8], scratch: &mut [u8]) -> Reading
+    requires { ⌜ InRange p ⌝ }
+    requires { ⌜ (length (now sheet) ≡ p .depth * p .n) × (length (now scratch) ≡ p .depth * p .n) ⌝ }
+    ensures { λ r. ⌜ CorrectedAll p (now (sheet .entry)) r (now (scratch .exit)) ⌝ }
+{
+    let n = p.n;
+    let depth = p.depth;
+    let mut changed: usize = 0;
+    let mut d: usize = 0;
+    while d < depth {
+        let a = d * n;
+        let v = correct_block(p, sheet, d, &mut scratch[a..a + n]);
+        if !is_corrected(v) {
+            return Reading::Refused(Refusal::Block {
+                number: d,
+                verdict: v,
+            });
+        }
+        changed += changed_by(v);
+        d += 1;
+    }
+    Reading::Accepted { changed }
+}
+
+/// Reads a sheet of D × n cells: every block is corrected in the scratch (D × n bytes) before a byte of the payload (D × k bytes) is
+/// written. After every result but the refusals 1 and 2 the scratch is all zero.
+pub fn read(p: Profile, sheet: &[u8], scratch: &mut [u8], payload: &mut [u8]) -> Reading
+    ensures { λ r. ⌜ r ≡ readAnswer p (now (sheet .entry)) (now (scratch .entry)) (now (payload .entry)) ⌝ }
+    ensures { λ _. ⌜ now (scratch .exit) ≡ readScratch p (now (sheet .entry)) (now (scratch .entry)) (now (payload .entry)) ⌝ }
+    ensures { λ _. ⌜ now (payload .exit) ≡ readPayload p (now (sheet .entry)) (now (scratch .entry)) (now (payload .entry)) ⌝ }
+{
+    if !p.in_range() {
+        return Reading::Refused(Refusal::BadProfile);
+    }
+    if !read_fits(p, sheet.len(), scratch.len(), payload.len()) {
+        return Reading::Refused(Refusal::WrongLength);
+    }
+    let answer = correct_blocks(p, sheet, scratch);
+    if !is_accepted(answer) {
+        clear(scratch);
+        return answer;
+    }
+    copy_messages(p, scratch, payload);
+    clear(scratch);
+    answer
+}
+
+// Writes a message into `word`, and lays it as block d of the sheet.
+fn write_with(p: Profile, message: &[u8], d: usize, word: &mut [u8], sheet: &mut [u8])
+    requires { ⌜ InRange p ⌝ }
+    requires { ⌜ (d < p .depth) × (length (now message) ≡ messageLength p) × (length (now sheet) ≡ p .depth * p .n) × (length (now word) ≡ p .n) ⌝ }
+    ensures { λ _. ⌜ Laid (p .depth) (p .n) d (encode (p .b) (p .r) (now (message .entry))) (now (sheet .entry)) (now (sheet .exit)) ⌝ }
+{
+    block::write(p, message, word);
+    scatter(word, d, p.depth, sheet);
+}
+
+fn write_block(p: Profile, message: &[u8], d: usize, sheet: &mut [u8])
+    requires { ⌜ InRange p ⌝ }
+    requires { ⌜ (d < p .depth) × (length (now message) ≡ messageLength p) × (length (now sheet) ≡ p .depth * p .n) ⌝ }
+    ensures { λ _. ⌜ Laid (p .depth) (p .n) d (encode (p .b) (p .r) (now (message .entry))) (now (sheet .entry)) (now (sheet .exit)) ⌝ }
+{
+    let mut word = [0u8; 255];
+    let n = p.n;
+    write_with(p, message, d, &mut word[..n], sheet);
+}
+
+fn write_blocks(p: Profile, payload: &[u8], sheet: &mut [u8])
+    requires { ⌜ InRange p ⌝ }
+    requires { ⌜ (length (now payload) ≡ p .depth * messageLength p) × (length (now sheet) ≡ p .depth * p .n) ⌝ }
+    ensures { λ _. ⌜ now (sheet .exit) ≡ writtenSheet p (now (payload .entry)) ⌝ }
+{
+    let depth = p.depth;
+    let k = p.message_length();
+    let mut d: usize = 0;
+    while d < depth {
+        let a = d * k;
+        write_block(p, &payload[a..a + k], d, sheet);
+        d += 1;
+    }
+}
+
+/// Writes a payload of D × k bytes as a sheet of D × n cells.
+pub fn write(p: Profile, payload: &[u8], sheet: &mut [u8]) -> Written
+    ensures { λ r. ⌜ r ≡ writeAnswer p (now (payload .entry)) (now (sheet .entry)) ⌝ }
+    ensures { λ _. ⌜ now (sheet .exit) ≡ writeLeaves p (now (payload .entry)) (now (sheet .entry)) ⌝ }
+{
+    if !p.in_range() {
+        return Written::BadProfile;
+    }
+    if !write_fits(p, payload.len(), sheet.len()) {
+        return Written::WrongLength;
+    }
+    write_blocks(p, payload, sheet);
+    Written::Done
+}
