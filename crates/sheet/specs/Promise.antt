@@ -5,8 +5,8 @@ use mathlib.Core.List.{List}
 use Prim.Native.Nat.{ℕ, _+_, _*_, _≤_, _<_}
 use lib.ListN.{length, getD}
 use Rattle.code.specs.Run.{Outside}
-use Rattle.block.specs.Profile.{InRange, messageLength, half}
-use Rattle.block.specs.declared.Profile.{Profile}
+pub use Rattle.block.specs.Profile.{InRange, messageLength, half}
+pub use Rattle.block.specs.declared.Profile.{Profile}
 use Rattle.block.specs.declared.Written.the-variants.{Done}
 use Rattle.sheet.specs.declared.Reading.the-variants.{Accepted}
 use Rattle.sheet.specs.Sheet.{writtenSheet, writeAnswer, writeLeaves, readBlock, readAnswer, readPayload}
