@@ -14,7 +14,7 @@ use Rattle.block.specs.declared.Verdict.{Verdict}
 use Rattle.sheet.specs.declared.Refusal.the-variants.{Block}
 use Rattle.sheet.specs.declared.Reading.the-variants.{Refused, Accepted}
 use Rattle.sheet.specs.Sheet.{interleave, blockOf, joined, messageOf, writtenSheet, readBlock, differ, readAnswer, readScratch, readPayload, refusalNumber, refusalPlace}
-use Rattle.sheet.specs.Buffers.{Payload, Lent, differing}
+pub use Rattle.sheet.specs.Buffers.{Payload, Lent, differing}
 
 -- ---- 1. S1: where cells and bytes stand
 

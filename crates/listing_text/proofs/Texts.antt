@@ -1,0 +1,86 @@
+-- The texts line by line and plot by plot, as the loops write them: a line of a payload's record, and a record of an accepted payload.
+use Prim.Native.Nat.{ℕ, zero, suc, _+_, _*_, _-_, _/_, _<_, _≤_}
+use native.Mathlib.Omega.{arith}
+use native.Mathlib.Nat.{le-refl}
+use mathlib.Core.Path.{_≡_, refl, sym, ap, _∙_}
+use mathlib.Core.List.{List, [], _∷_, _++_}
+use lib.ListN.{length, take, drop, getD, take-append-drop}
+use lib.Seq.{drop-drop}
+use Rattle.plot.specs.Layout.{Plot, headerLength, recordLength, lineOf, linesOf}
+use Rattle.plot.specs.Grammar.{stepAt, Reading, Plots, Stopped, readFrom, reading}
+use Rattle.plot.specs.Answers.{numberOf, placeOf}
+use Rattle.plot.specs.declared.Line.{Line}
+use Rattle.plot.specs.declared.Cursor.{Cursor}
+use Rattle.plot.specs.declared.Refusal.{Refusal}
+use Rattle.plot.specs.declared.Step.the-variants.{Record}
+use Rattle.plot.proofs.Cases.{bounds, past-header}
+use Rattle.plot.proofs.Sound.{here, lines-here, count-here, Accepts}
+use Rattle.plot.proofs.Entries.{go}
+use Rattle.listing_text.specs.Text.{newline, field, header, mended, lineText, linesText, plotsText, readText, refusalText, listingText}
+
+-- k lines of which i are passed
+module _ (plot k i : ℕ) (s : List ℕ) (from : ℕ) where
+  pub lines-done : k ≤ i → linesText plot (k - i) (drop (from + i * 3) s) ≡ []
+  unfolding linesText
+  lines-done h =
+      let z : k - i ≡ 0 = omega arith in
+      rw z
+
+  pub lines-next : i < k → (line : Line) → line ≡ lineOf (drop (from + i * 3) s)
+      → linesText plot (k - i) (drop (from + i * 3) s) ≡ lineText plot line ++ linesText plot (k - (i + 1)) (drop (from + (i + 1) * 3) s)
+  unfolding linesText
+  lines-next h line e =
+      let l : k - i ≡ suc (k - (i + 1)) = omega arith in
+      let z : from + i * 3 + 3 ≡ from + (i + 1) * 3 = omega arith in
+      rw (l, ← e, drop-drop 3 (from + i * 3) s, z)
+
+pub lines-first : (plot k : ℕ) (s : List ℕ) (from : ℕ) → linesText plot k (drop from s) ≡ linesText plot (k - 0) (drop (from + 0 * 3) s)
+lines-first plot k s from =
+    let z : k - 0 ≡ k = omega arith in
+    let y : from + 0 * 3 ≡ from = omega arith in
+    rw (z, y)
+
+-- lines are written from their own bytes
+text-prefix : (plot k : ℕ) (l r : List ℕ) → k * 3 ≤ length l → linesText plot k (l ++ r) ≡ linesText plot k l
+unfolding linesText
+text-prefix plot zero l r h = refl
+text-prefix plot (suc k) [] r h = absurd (let z : suc k * 3 ≤ 0 = h in omega arith)
+text-prefix plot (suc k) (x ∷ []) r h = absurd (let z : suc k * 3 ≤ 1 = h in omega arith)
+text-prefix plot (suc k) (x ∷ y ∷ []) r h = absurd (let z : suc k * 3 ≤ 2 = h in omega arith)
+text-prefix plot (suc k) (x ∷ y ∷ z ∷ l) r h =
+    let g : suc k * 3 ≤ suc (suc (suc (length l))) = h in
+    ap (λ (t : List ℕ). lineText plot (record { species = x; class = y; count = z }) ++ t) (text-prefix plot k l r (omega arith))
+
+-- a record of an accepted payload, and the plots after it
+module _ (s : List ℕ) (at last f from count : ℕ) (next : Cursor) (e : stepAt at (drop at s) ≡ Record from count next) (h : length s ≤ at + f)
+    (ps : List Plot) (end : ℕ) (q : readFrom f at last (drop at s) ≡ Plots ps end) where
+  abbrev rest : List Plot
+  rest = go s at last f from count next e h ps end q .rest
+
+  pub plots-next : plotsText ps ≡ linesText (next .last) count (drop from s) ++ plotsText rest
+  unfolding plotsText
+  plots-next =
+      let d = drop headerLength (drop at s) in
+      let k = lines-here at last (drop at s) from count next e in
+      ap plotsText (go s at last f from count next e h ps end q .is)
+      ∙ ap (λ (n : ℕ). linesText (next .last) n (take (count * 3) d) ++ plotsText rest) (count-here at last (drop at s) from count next e)
+      ∙ ap (λ (t : List ℕ). t ++ plotsText rest)
+      (sym (text-prefix (next .last) count (take (count * 3) d) (drop (count * 3) d) (rw k (le-refl _)))
+      ∙ ap (linesText (next .last) count) (take-append-drop (count * 3) d ∙ past-header at from s (bounds s at last f from count next e .lines-at)))
+
+pub plots-none : (ps : List Plot) → ps ≡ [] → plotsText ps ≡ []
+unfolding plotsText
+plots-none ps e = rw e
+
+pub read-plots : (q : Reading) (ps : List Plot) (end : ℕ) → q ≡ Plots ps end → readText q ≡ plotsText ps
+unfolding readText
+read-plots q ps end e = rw e
+
+pub listing-plots : (changed : ℕ) (q : Reading) (ps : List Plot) (end : ℕ) → q ≡ Plots ps end
+    → header ++ (readText q ++ (mended ++ field changed newline)) ≡ listingText changed q
+unfolding listingText readText
+listing-plots changed q ps end e = rw e
+
+pub listing-stopped : (changed : ℕ) (q : Reading) (r : Refusal) → q ≡ Stopped r → refusalText (numberOf r) (placeOf r) ≡ listingText changed q
+unfolding listingText
+listing-stopped changed q r e = rw e

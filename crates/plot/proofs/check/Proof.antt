@@ -1,0 +1,159 @@
+-- The payload check. Outer invariant: the whole reading is the reading from the cursor on. Inner invariant: the lines of the record hold where
+-- those from line `i` on do. Measures: the bytes and the lines left.
+use Prim.Native.Nat.{ℕ, _+_, _*_, _-_, _≤_, _<_}
+use native.Mathlib.Omega.{arith}
+use native.Mathlib.Nat.{sub-zero, add-zero}
+use mathlib.Core.Path.{_≡_, refl, sym, ap, _∙_}
+use mathlib.Core.Bool.{true, false}
+use lib.ListN.{length, drop, length-drop}
+use borrow.Author.Needs.{needs}
+use borrow.Author.Tests.{lt-ltb, le-ltb, not-true, not-false}
+use Rattle.plot.specs.declared.Refusal.the-variants.{WrongLength, BadMark, CutShort, BadTally, PlotOrder}
+use Rattle.plot.specs.declared.Step.the-variants.{Record, End, Refused}
+use Rattle.plot.specs.Layout.{noLine, linesHold, lineOf, lineHolds}
+use Rattle.plot.specs.Grammar.{stepAt, Plots, Stopped, readFrom, reading}
+use Rattle.plot.specs.Answers.{checkedOf}
+use Rattle.plot.proofs.Cases.{read-end, read-refused, lines-end, lines-not, lines-on, Bounds, bounds, turn-lines, turn-order, turn-on, checked-onto, checked-stopped, checked-plots, reading-long, reading-short, first-lines}
+use Rattle.plot.proofs.check.Statement.{statement}
+use Rattle.plot.proofs.check.Tie as tie
+
+abbrev Inv-loop : tie.InvT-loop
+Inv-loop payload c lines count next before₀ i₀ before i =
+    (i ≤ count) × (linesHold noLine count (drop lines payload) ≡ linesHold before (count - i) (drop (lines + i * 3) payload))
+
+abbrev μ-loop : tie.MeasureT-loop
+μ-loop payload c lines count next before₀ i₀ before i = count - i
+
+abbrev Inv-records : tie.InvT-records
+Inv-records payload c₀ c =
+    (f : ℕ) × (length payload ≤ c .at + f) × (c .at ≤ length payload) × (checkedOf 0 (reading payload) ≡ checkedOf (c .last) (readFrom f (c .at) (c .last) (drop (c .at) payload)))
+
+abbrev μ-records : tie.MeasureT-records
+μ-records payload c₀ c = length payload - c .at
+
+returns : tie.Need-returns Inv-loop μ-loop Inv-records μ-records
+returns c = reading-long _ (c .if1 .taken)
+
+records-holds : tie.Need-records-holds Inv-loop μ-loop Inv-records μ-records
+records-holds c =
+    let s = c .before .before .args .payload .now in
+    (length s, omega arith, omega arith, ap (checkedOf 0) (reading-short s (c .if1 .left)))
+
+next-requires : tie.Need-next-requires Inv-loop μ-loop Inv-records μ-records
+next-requires c κs = search needs
+
+enum-known-lines : tie.Need-enum-known-lines Inv-loop μ-loop Inv-records μ-records
+enum-known-lines c = search needs
+
+-- the record that the cursor stands at
+step-is : (c : tie.After-known-told Inv-loop μ-loop Inv-records μ-records) → let o = c .before .before .before .before .records in
+    stepAt (o .c .at) (drop (o .c .at) (c .before .before .before .before .before .before .before .args .payload .now))
+    ≡ Record (c .before .lines .given .0 .0) (c .before .lines .given .0 .1 .0) (c .before .lines .given .0 .1 .1 .0)
+step-is c = sym (c .before .before .before .next .ensures) ∙ c .before .lines .given .1
+
+bounds-here : (c : tie.After-known-told Inv-loop μ-loop Inv-records μ-records) → let o = c .before .before .before .before .records in
+    Bounds (c .before .before .before .before .before .before .before .args .payload .now) (o .c .at) (o .c .last) (o .inv .0)
+    (c .before .lines .given .0 .0) (c .before .lines .given .0 .1 .0) (c .before .lines .given .0 .1 .1 .0) (step-is c)
+bounds-here c = bounds _ _ _ _ _ _ _ (step-is c)
+
+loop-holds : tie.Need-loop-holds Inv-loop μ-loop Inv-records μ-records
+loop-holds c = (omega arith, first-lines (c .before .lines .given .0 .1 .0) (c .before .lines .given .0 .0) (c .before .before .before .before .before .before .before .args .payload .now))
+
+mul-line-at : tie.Need-mul-line-at Inv-loop μ-loop Inv-records μ-records
+mul-line-at c = omega (arith, bounds-here (c .before .before))
+
+add-line-at : tie.Need-add-line-at Inv-loop μ-loop Inv-records μ-records
+add-line-at c = omega (arith, bounds-here (c .before .before))
+
+line-at-requires : tie.Need-line-at-requires Inv-loop μ-loop Inv-records μ-records
+line-at-requires c κs = omega (arith, bounds-here (c .before .before))
+
+line-holds-requires : tie.Need-line-holds-requires Inv-loop μ-loop Inv-records μ-records
+line-holds-requires c κs = search needs
+
+add-i : tie.Need-add-i Inv-loop μ-loop Inv-records μ-records
+add-i c = omega arith
+
+loop-less : tie.Need-loop-less Inv-loop μ-loop Inv-records μ-records
+loop-less c = omega arith
+
+loop-again : tie.Need-loop-again Inv-loop μ-loop Inv-records μ-records
+loop-again c =
+    let l = c .before .before .before .before .loop in
+    (omega arith, l .inv .1 ∙ lines-on _ _ _ _ _ (c .before .before .before .loop-test .taken) _ (c .before .before .line-at .ensures) (sym (c .before .line-holds .ensures) ∙ not-false _ (c .if2 .left)))
+
+records-less : tie.Need-records-less Inv-loop μ-loop Inv-records μ-records
+records-less c = omega (arith, bounds-here (c .before .before .before .before .before))
+
+records-again : tie.Need-records-again Inv-loop μ-loop Inv-records μ-records
+records-again c =
+    let d = c .before .before .before .before .before in
+    let o = d .before .before .before .before .records in
+    let g = c .before .before .before .before .loop .inv .1 ∙ lines-end _ _ _ _ _ (c .before .before .before .loop-test .left) in (
+      o .inv .0 - 1,
+      omega (arith, bounds-here d),
+      omega (arith, bounds-here d),
+      o .inv .3 ∙ ap (checkedOf (o .c .last)) (turn-on _ _ _ _ _ _ _ (step-is d) (o .inv .1) g (c .if3 .left)) ∙ checked-onto _ _ _,
+    )
+
+enum-told : tie.Need-enum-told Inv-loop μ-loop Inv-records μ-records
+enum-told c = search needs
+
+enum-known-r : tie.Need-enum-known-r Inv-loop μ-loop Inv-records μ-records
+enum-known-r c = search needs
+
+returns-2 : tie.Need-returns-2 Inv-loop μ-loop Inv-records μ-records
+returns-2 c =
+    let d = c .before .before .before .before .before in
+    let o = d .before .before .before .before .records in
+    let l = c .before .before .before .before .loop in
+    let g = l .inv .1 ∙ lines-not _ _ _ _ _ (c .before .before .before .loop-test .taken) _ (c .before .before .line-at .ensures) (sym (c .before .line-holds .ensures) ∙ not-true _ (c .if2 .taken)) in
+    checked-stopped _ _ _ (turn-lines _ _ _ _ _ _ _ (step-is d) (o .inv .1) g) ∙ sym (o .inv .3)
+
+returns-3 : tie.Need-returns-3 Inv-loop μ-loop Inv-records μ-records
+returns-3 c =
+    let d = c .before .before .before .before .before in
+    let o = d .before .before .before .before .records in
+    let g = c .before .before .before .before .loop .inv .1 ∙ lines-end _ _ _ _ _ (c .before .before .before .loop-test .left) in
+    checked-stopped _ _ _ (turn-order _ _ _ _ _ _ _ (step-is d) (o .inv .1) g (c .if3 .taken)) ∙ sym (o .inv .3)
+
+returns-4 : tie.Need-returns-4 Inv-loop μ-loop Inv-records μ-records
+returns-4 c =
+    let o = c .before .before .before .records in
+    checked-plots _ _ _ (read-end _ _ _ _ (sym (c .before .before .next .ensures) ∙ c .enum-told .given .1)) ∙ sym (o .inv .3)
+
+returns-5 : tie.Need-returns-5 Inv-loop μ-loop Inv-records μ-records
+returns-5 c =
+    let o = c .before .before .before .before .records in
+    let s = c .before .before .before .before .before .before .before .args .payload .now in
+    let l : length (drop (o .c .at) s) ≡ length s - o .c .at = length-drop (o .c .at) s in
+    checked-stopped _ _ _ (read-refused _ _ _ _ _ (omega arith) (sym (c .before .before .before .next .ensures) ∙ c .before .r .given .1)) ∙ sym (o .inv .3)
+
+pub check-spec : {M : Type 1} → statement M
+check-spec =
+    tie.close
+    (tie.spec
+    Inv-loop
+    μ-loop
+    Inv-records
+    μ-records
+    returns
+    records-holds
+    next-requires
+    enum-known-lines
+    loop-holds
+    mul-line-at
+    add-line-at
+    line-at-requires
+    line-holds-requires
+    add-i
+    loop-less
+    loop-again
+    records-less
+    records-again
+    enum-told
+    enum-known-r
+    returns-2
+    returns-3
+    returns-4
+    returns-5)

@@ -1,0 +1,75 @@
+-- The grammar of a payload (R1, R2), once: what stands at a place, and the reading of all records from a place on.
+-- Checking, asking and adding are equations with `reading`. A list s of bytes is the payload from the place `at` on.
+use Prim.Native.Nat.{ℕ, zero, suc, _+_, _*_, _-_}
+use mathlib.Core.Path.{_≡_}
+use mathlib.Core.Bool.{Bool, true, false, not}
+use mathlib.Core.List.{List, [], _∷_, _++_}
+use lib.ListN.{length, getD, take, drop}
+use lib.Dec.{ltb, leb, eqb}
+use Rattle.lists.specs.Choice.{pick}
+use Rattle.plot.specs.Layout.{Plot, mark, headerLength, plotOf, countOf, recordLength, noLine, linesHold}
+use Rattle.plot.specs.declared.Cursor.{Cursor}
+use Rattle.plot.specs.declared.Refusal.{Refusal}
+use Rattle.plot.specs.declared.Refusal.the-variants.{WrongLength, BadMark, CutShort, BadTally, PlotOrder}
+use Rattle.plot.specs.declared.Step.{Step}
+use Rattle.plot.specs.declared.Step.the-variants.{Record, End, Refused}
+
+unfoldable pub allZero : List ℕ → Bool
+allZero [] = true
+allZero (x ∷ s) = pick (eqb x 0) (allZero s) false
+
+-- "as much of the mark as the payload holds": the two lists agree as far as both go
+unfoldable pub agree : List ℕ → List ℕ → Bool
+agree [] s = true
+agree (m ∷ ms) [] = true
+agree (m ∷ ms) (x ∷ s) = pick (eqb x m) (agree ms s) false
+
+-- "If the byte there is zero, all later bytes must be zero. Otherwise the checks are, in order: as much of the mark as the payload holds; the five
+-- header bytes are there; at most 40 lines; all lines are there; plot number not 0": the checks of a record before its lines
+unfoldable pub headAt : ℕ → List ℕ → Step
+headAt at s =
+    pick (not (agree mark s)) (Refused (BadMark at))
+    (pick (ltb (length s) headerLength) (Refused (CutShort at))
+    (pick (ltb 40 (countOf s)) (Refused (BadTally at))
+    (pick (ltb (length s) (recordLength (countOf s))) (Refused (CutShort at))
+    (pick (eqb (plotOf s) 0) (Refused (BadTally at))
+    (Record (at + headerLength) (countOf s) (record { at = at + recordLength (countOf s); last = plotOf s }))))))
+
+-- the byte past the payload's end counts as zero, with no later bytes
+unfoldable pub stepAt : ℕ → List ℕ → Step
+stepAt at s = pick (eqb (getD s 0 0) 0) (pick (allZero s) End (Refused (BadMark at))) (headAt at s)
+
+-- all plots with the place after the last record, or the first refusal
+pub data Reading : Type 0 where
+  Plots : List Plot → ℕ → Reading
+  Stopped : Refusal → Reading
+
+abbrev pub onto : Plot → Reading → Reading
+onto p (Plots ps end) = Plots (p ∷ ps) end
+onto p (Stopped r) = Stopped r
+
+-- ".. the lines in turn ..; rise of plot numbers. The first failing check of the first failing record ends the reading.": what stands at the place,
+-- then `rest` for the records after it
+unfoldable pub readStep : (ℕ → ℕ → List ℕ → Reading) → ℕ → ℕ → List ℕ → Step → Reading
+readStep rest at last s End = Plots [] at
+readStep rest at last s (Refused r) = Stopped r
+readStep rest at last s (Record from count next) =
+    pick (not (linesHold noLine count (drop headerLength s))) (Stopped (BadTally at))
+    (pick (leb (next .last) last) (Stopped (PlotOrder at))
+    (onto (record { number = next .last; lines = take (count * 3) (drop headerLength s) })
+    (rest (next .at) (next .last) (drop (recordLength count) s))))
+
+-- "A place in the payload moves on one record at a time." A record takes five bytes or more: as many steps as bytes are enough.
+unfoldable pub readFrom : ℕ → ℕ → ℕ → List ℕ → Reading
+readFrom zero at last s = Plots [] at
+readFrom (suc steps) at last s = readStep (readFrom steps) at last s (stepAt at s)
+
+-- "A payload of 0 to 4,048 bytes": a longer one is refusal 2, before all others (E3)
+abbrev pub longest : ℕ
+longest = 4048
+
+unfoldable pub reading : List ℕ → Reading
+reading s = pick (ltb longest (length s)) (Stopped WrongLength) (readFrom (length s) 0 0 s)
+
+abbrev pub Accepted : Reading → Type 0
+Accepted q = (ps : List Plot) × (end : ℕ) × (q ≡ Plots ps end)

@@ -1,0 +1,75 @@
+-- The bytes of one record (R1): mark, plot number, number of lines, lines of three bytes. A later edition of the record changes this file.
+-- A list of bytes given to a reading here begins at the record's first byte.
+use Prim.Native.Nat.{ℕ, zero, suc, _+_, _*_, _/_, _%_}
+use mathlib.Core.Bool.{Bool, true, false, not}
+use mathlib.Core.List.{List, [], _∷_, _++_}
+use lib.ListN.{length, getD, take, drop}
+use lib.Dec.{ltb, leb, eqb}
+use Rattle.lists.specs.Choice.{pick}
+use Rattle.plot.specs.declared.Line.{Line}
+
+-- "the two-byte mark 50 4C (hexadecimal)"
+abbrev pub mark : List ℕ
+mark = 0x50 ∷ 0x4C ∷ []
+
+-- "the five header bytes": mark, plot number, number of lines
+abbrev pub headerLength : ℕ
+headerLength = 5
+
+-- "the plot number (two bytes, low first ..)"
+abbrev pub plotOf : List ℕ → ℕ
+plotOf s = getD s 2 0 + getD s 3 0 * 256
+
+-- "the number of lines (one byte ..)"
+abbrev pub countOf : List ℕ → ℕ
+countOf s = getD s 4 0
+
+-- "three bytes a line"
+abbrev pub recordLength : ℕ → ℕ
+recordLength count = headerLength + count * 3
+
+-- "species number .., diameter class .., tree count": the line at the front of s
+abbrev pub lineOf : List ℕ → Line
+lineOf s = record { species = getD s 0 0; class = getD s 1 0; count = getD s 2 0 }
+
+-- before the first line stands none: every line rises above this one
+abbrev pub noLine : Line
+noLine = record { species = 0; class = 0; count = 0 }
+
+abbrev pub within : ℕ → ℕ → ℕ → Bool
+within least most x = pick (ltb x least) false (leb x most)
+
+-- "Lines rise strictly by species, then class."
+unfoldable pub rises : Line → Line → Bool
+rises before line =
+    pick (ltb (before .species) (line .species)) true
+    (pick (eqb (before .species) (line .species)) (ltb (before .class) (line .class)) false)
+
+-- the check of one line, "by species, class, count and then its rise": "species number 1 to 99, diameter class 1 to 200 .., tree count 1 to 255"
+unfoldable pub lineHolds : Line → Line → Bool
+lineHolds before line =
+    pick (not (within 1 99 (line .species))) false
+    (pick (not (within 1 200 (line .class))) false
+    (pick (not (within 1 255 (line .count))) false
+    (rises before line)))
+
+-- "the lines in turn": `count` lines from the front of s on, after the line `before`
+unfoldable pub linesHold : Line → ℕ → List ℕ → Bool
+linesHold before zero s = true
+linesHold before (suc count) s = pick (lineHolds before (lineOf s)) (linesHold (lineOf s) count (drop 3 s)) false
+
+-- a plot: its number, and the bytes of its lines, three a line
+pub record Plot : Type 0 where
+  pub number : ℕ
+  pub lines : List ℕ
+
+abbrev pub linesOf : Plot → ℕ
+linesOf p = length (p .lines) / 3
+
+-- the header as written
+abbrev pub headerOf : ℕ → ℕ → List ℕ
+headerOf number count = mark ++ (number % 256 ∷ number / 256 ∷ count ∷ [])
+
+-- the record as written, "mark to last line"
+abbrev pub recordOf : Plot → List ℕ
+recordOf p = headerOf (p .number) (linesOf p) ++ p .lines

@@ -1,0 +1,5 @@
+pub mod Layout
+pub mod Grammar
+pub mod Answers
+pub mod Canonical
+pub mod Sheets

@@ -1,0 +1,267 @@
+// The plot records in a payload: a cursor that moves on one record at a time, the check of a whole payload, asking for a plot and adding one.
+// Each answer is an equation with one reading of the payload (specs/Grammar.antt).
+mod record;
+mod tally;
+
+use record::HEADER;
+use record::all_zero;
+use record::head;
+use record::put_record;
+use tally::line_at;
+use tally::line_holds;
+use tally::lines_hold;
+ghost use mathlib.Core.Path.{_≡_};
+ghost use Prim.Native.Nat.{_≤_};
+ghost use lib.ListN.{drop};
+ghost use Rattle.plot.specs.Layout.{Plot};
+ghost use Rattle.plot.specs.Grammar.{stepAt, reading, Accepted};
+ghost use Rattle.plot.specs.Answers.{numberOf, placeOf, checked, located, asked, addedAt, added, payloadWith};
+
+const LONGEST: usize = 4048;
+
+// A place in the payload, and the number of the last plot before it (0 if there is none).
+pub struct Cursor {
+    pub at: usize,
+    pub last: u16,
+}
+
+pub struct Line {
+    pub species: u8,
+    pub class: u8,
+    pub count: u8,
+}
+
+// Document 01: 2 wrong frame, 5 bad mark, 6 cut short, 7 bad tally, 8 plot order, 9 no such plot, 10 full.
+pub enum Refusal {
+    WrongLength,
+    BadMark(usize),
+    CutShort(usize),
+    BadTally(usize),
+    PlotOrder(usize),
+    NoSuchPlot,
+    Full(usize),
+}
+
+// What stands at a cursor: a record whose header holds, with the place and number of its lines and the cursor after it.
+pub enum Step {
+    Record {
+        lines: usize,
+        count: usize,
+        next: Cursor,
+    },
+    End,
+    Refused(Refusal),
+}
+
+// An accepted payload has the cursor after its last record.
+pub enum Checked {
+    Accepted(Cursor),
+    Refused(Refusal),
+}
+
+pub enum Located {
+    At { start: usize, len: usize },
+    Refused(Refusal),
+}
+
+pub enum Added {
+    At(usize),
+    Refused(Refusal),
+}
+
+pub fn number(r: Refusal) -> u8
+    ensures { λ n. ⌜ n ≡ numberOf r ⌝ }
+{
+    match r {
+        Refusal::WrongLength => 2,
+        Refusal::BadMark(_) => 5,
+        Refusal::CutShort(_) => 6,
+        Refusal::BadTally(_) => 7,
+        Refusal::PlotOrder(_) => 8,
+        Refusal::NoSuchPlot => 9,
+        Refusal::Full(_) => 10,
+    }
+}
+
+pub fn place(r: Refusal) -> usize
+    ensures { λ n. ⌜ n ≡ placeOf r ⌝ }
+{
+    match r {
+        Refusal::WrongLength => 0,
+        Refusal::BadMark(p) => p,
+        Refusal::CutShort(p) => p,
+        Refusal::BadTally(p) => p,
+        Refusal::PlotOrder(p) => p,
+        Refusal::NoSuchPlot => 0,
+        Refusal::Full(p) => p,
+    }
+}
+
+impl Cursor {
+    // What stands at the cursor, with the next cursor.
+    pub fn next(self, payload: &[u8]) -> Step
+        ensures { λ r. ⌜ r ≡ stepAt (self .at) (drop (self .at) (now (payload .entry))) ⌝ }
+    {
+        let at = self.at;
+        if payload.len() <= at {
+            return Step::End;
+        }
+        if payload[at] != 0 {
+            return head(&payload[at..], at);
+        }
+        if all_zero(&payload[at..]) {
+            return Step::End;
+        }
+        Step::Refused(Refusal::BadMark(at))
+    }
+}
+
+// The whole payload: records outside, lines inside; a refusal leaves both.
+pub fn check(payload: &[u8]) -> Checked
+    ensures { λ r. ⌜ r ≡ checked (now (payload .entry)) ⌝ }
+{
+    if LONGEST < payload.len() {
+        return Checked::Refused(Refusal::WrongLength);
+    }
+    let mut c = Cursor { at: 0, last: 0 };
+    let mut answer = Checked::Accepted(c);
+    'records: loop {
+        match c.next(payload) {
+            Step::Record { lines, count, next } => {
+                let mut before = Line {
+                    species: 0,
+                    class: 0,
+                    count: 0,
+                };
+                let mut i = 0;
+                while i < count {
+                    let line = line_at(payload, lines + i * 3);
+                    if !line_holds(before, line) {
+                        answer = Checked::Refused(Refusal::BadTally(c.at));
+                        break 'records;
+                    }
+                    before = line;
+                    i += 1;
+                }
+                if next.last <= c.last {
+                    answer = Checked::Refused(Refusal::PlotOrder(c.at));
+                    break 'records;
+                }
+                c = next;
+            }
+            Step::End => {
+                answer = Checked::Accepted(c);
+                break 'records;
+            }
+            Step::Refused(r) => {
+                answer = Checked::Refused(r);
+                break 'records;
+            }
+        }
+    }
+    answer
+}
+
+// The record of `plot` in an accepted payload.
+fn search(payload: &[u8], plot: u16) -> Located
+    requires { ⌜ Accepted (reading (now payload)) ⌝ }
+    ensures { λ r. ⌜ r ≡ located plot (now (payload .entry)) ⌝ }
+{
+    let mut c = Cursor { at: 0, last: 0 };
+    loop {
+        match c.next(payload) {
+            Step::Record {
+                lines: _,
+                count: _,
+                next,
+            } => {
+                if next.last == plot {
+                    let start = c.at;
+                    let end = next.at;
+                    return Located::At {
+                        start,
+                        len: end - start,
+                    };
+                }
+                c = next;
+            }
+            Step::End => {
+                return Located::Refused(Refusal::NoSuchPlot);
+            }
+            Step::Refused(r) => {
+                return Located::Refused(r);
+            }
+        }
+    }
+}
+
+// The companion of asking: where the record of `plot` lies, or why there is none.
+pub fn locate(payload: &[u8], plot: u16) -> Located
+    ensures { λ r. ⌜ r ≡ located plot (now (payload .entry)) ⌝ }
+{
+    match check(payload) {
+        Checked::Accepted(_) => search(payload, plot),
+        Checked::Refused(r) => Located::Refused(r),
+    }
+}
+
+// The record of `plot`, as a part of the payload; empty if there is none.
+pub fn ask<'a>(payload: &'a [u8], plot: u16) -> &'a [u8]
+    ensures { λ r. ⌜ now r ≡ asked plot (now (payload .entry)) ⌝ }
+{
+    match locate(payload, plot) {
+        Located::At { start, len } => &payload[start..start + len],
+        Located::Refused(_) => &payload[..0],
+    }
+}
+
+// Where a plot would be added to an accepted payload of `size` bytes, c being the cursor after its last record; or why it is not.
+fn room(size: usize, c: Cursor, plot: u16, lines: &[u8]) -> Added
+    requires { ⌜ c .at ≤ size ⌝ }
+    ensures { λ r. ⌜ r ≡ addedAt size (c .at) (c .last) (record { number = plot; lines = now (lines .entry) }) ⌝ }
+{
+    let at = c.at;
+    if 120 < lines.len() {
+        return Added::Refused(Refusal::BadTally(at));
+    }
+    if lines.len() % 3 != 0 {
+        return Added::Refused(Refusal::BadTally(at));
+    }
+    if plot == 0 {
+        return Added::Refused(Refusal::BadTally(at));
+    }
+    if !lines_hold(lines) {
+        return Added::Refused(Refusal::BadTally(at));
+    }
+    if plot <= c.last {
+        return Added::Refused(Refusal::PlotOrder(at));
+    }
+    if size - at < HEADER + lines.len() {
+        return Added::Refused(Refusal::Full(at));
+    }
+    Added::At(at)
+}
+
+// Where a plot would be added, or why it is not.
+fn place_for(payload: &[u8], plot: u16, lines: &[u8]) -> Added
+    ensures { λ r. ⌜ r ≡ added (record { number = plot; lines = now (lines .entry) }) (now (payload .entry)) ⌝ }
+{
+    match check(payload) {
+        Checked::Accepted(c) => room(payload.len(), c, plot, lines),
+        Checked::Refused(r) => Added::Refused(r),
+    }
+}
+
+// A plot after the last record: its first byte, or why it is not added; then the payload is as it was.
+pub fn add(payload: &mut [u8], plot: u16, lines: &[u8]) -> Added
+    ensures { λ r. ⌜ r ≡ added (record { number = plot; lines = now (lines .entry) }) (now (payload .entry)) ⌝ }
+    ensures { λ _. ⌜ now (payload .exit) ≡ payloadWith (record { number = plot; lines = now (lines .entry) }) (now (payload .entry)) ⌝ }
+{
+    let answer = place_for(payload, plot, lines);
+    let Added::At(start) = answer else {
+        return answer;
+    };
+    let end = start + (HEADER + lines.len());
+    put_record(&mut payload[start..end], plot, lines);
+    answer
+}

@@ -1,0 +1,79 @@
+// Tally lines: the check of one line after the line before it, and of lines in turn.
+// Each meets its definition of specs/Layout.antt.
+use crate::Line;
+ghost use mathlib.Core.Path.{_≡_};
+ghost use Prim.Native.Nat.{ℕ, _+_, _≤_, _/_};
+ghost use lib.ListN.{length, drop};
+ghost use Rattle.plot.specs.Layout.{within, rises, lineOf, lineHolds, linesHold, noLine};
+
+fn in_range(x: u8, least: u8, most: u8) -> bool
+    ensures { λ r. ⌜ r ≡ within least most x ⌝ }
+{
+    if x < least {
+        return false;
+    }
+    x <= most
+}
+
+// By species, then class.
+fn is_above(before: Line, line: Line) -> bool
+    ensures { λ r. ⌜ r ≡ rises before line ⌝ }
+{
+    if before.species < line.species {
+        return true;
+    }
+    if before.species != line.species {
+        return false;
+    }
+    before.class < line.class
+}
+
+// The check of one line after the line before it.
+pub(crate) fn line_holds(before: Line, line: Line) -> bool
+    ensures { λ r. ⌜ r ≡ lineHolds before line ⌝ }
+{
+    if !in_range(line.species, 1, 99) {
+        return false;
+    }
+    if !in_range(line.class, 1, 200) {
+        return false;
+    }
+    if !in_range(line.count, 1, 255) {
+        return false;
+    }
+    is_above(before, line)
+}
+
+// The line whose first byte is at `at`.
+pub(crate) fn line_at(s: &[u8], at: usize) -> Line
+    requires { ⌜ at + 3 ≤ length (now s) ⌝ }
+    ensures { λ r. ⌜ r ≡ lineOf (drop at (now (s .entry))) ⌝ }
+{
+    Line {
+        species: s[at],
+        class: s[at + 1],
+        count: s[at + 2],
+    }
+}
+
+// Lines on their own, in turn.
+pub(crate) fn lines_hold(lines: &[u8]) -> bool
+    ensures { λ r. ⌜ r ≡ linesHold noLine (length (now (lines .entry)) / 3) (now (lines .entry)) ⌝ }
+{
+    let count = lines.len() / 3;
+    let mut before = Line {
+        species: 0,
+        class: 0,
+        count: 0,
+    };
+    let mut i = 0;
+    while i < count {
+        let line = line_at(lines, i * 3);
+        if !line_holds(before, line) {
+            return false;
+        }
+        before = line;
+        i += 1;
+    }
+    true
+}

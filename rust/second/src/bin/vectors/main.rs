@@ -1,0 +1,122 @@
+//! Prints test vectors with fixed seeds: inputs, and the answers that document 01 demands.
+//!
+//!     vectors KIND             one line per vector: its input, `=`, its answer, all in decimal
+//!     vectors KIND --bytes     the inputs as one byte stream
+//!     vectors KIND --answers   one line per vector: the numbers of its answer, single spaces between
+//!     vectors lists --input I  input number I (from 0) of the kind `lists`, as it stands
+//!     vectors lister           reads the lister's standard input and prints the lister's text
+//!
+//! In a line of text a buffer is `| length bytes |`. In the stream a word is two bytes, low first, and a
+//! buffer is a word for its length and then its bytes. The stream has no header and ends with its last vector.
+//! A profile is five words: n, r, b, L, D. Number 0 means accepted; else it is the refusal's number.
+//!
+//! KIND        stream of a vector                              answer
+//! blocks      profile, buffer read block, word length of      number; start or place; length of the run (0 if
+//!             the second buffer (each byte 170 at entry)      refused); the second buffer's bytes at exit
+//! writes      profile, buffer message, word length of the     number; the block buffer's bytes at exit
+//!             block buffer (each byte 170 at entry)
+//! checks      profile, buffer read block                      number; 1 if a codeword, else 0
+//! sheets      byte 0, profile, buffer payload, buffer sheet   number; place (0 if accepted); the sheet's bytes at exit
+//!             byte 1, profile, buffer sheet, buffer scratch,  number; blocks changed or place; the scratch's bytes
+//!             buffer payload                                  at exit; the payload's bytes at exit
+//! plots       byte 0, buffer payload                          number; place (0 if accepted)
+//!             byte 1, buffer payload, word plot asked for     number; record's first byte or place; length of the
+//!                                                             part (0 if refused); the part's bytes
+//!             byte 2, buffer payload, word plot to add,       number; record's first byte or place; the payload's
+//!             buffer lines                                    bytes at exit
+//! lists       buffer standard input                           length of the text; its bytes
+//! generators  word b, word r                                  the r+1 coefficients, lowest first
+
+mod blocks;
+mod plots;
+mod sheets;
+mod vector;
+
+use std::io::{self, Read, Write};
+use vector::Vector;
+
+fn vectors(kind: &str) -> Option<Vec<Vector>> {
+    match kind {
+        "blocks" => Some(blocks::corrections()),
+        "writes" => Some(blocks::writes()),
+        "checks" => Some(blocks::checks()),
+        "sheets" => Some(sheets::sheets()),
+        "plots" => Some(plots::plots()),
+        "lists" => Some(sheets::lists()),
+        "generators" => Some(blocks::generators()),
+        _ => None,
+    }
+}
+
+fn lister_text() -> io::Result<Vec<u8>> {
+    let mut input = Vec::new();
+    io::stdin().read_to_end(&mut input)?;
+    Ok(second::lister::list(&input))
+}
+
+/// All vectors of a kind, each printed in this way.
+fn printed(kind: &str, print: impl Fn(&Vector) -> Vec<u8>) -> Option<Vec<u8>> {
+    Some(vectors(kind)?.iter().flat_map(print).collect())
+}
+
+fn line(text: String) -> Vec<u8> {
+    (text + "\n").into_bytes()
+}
+
+/// What to print, or none if the arguments are not understood.
+fn output(arguments: &[&str]) -> io::Result<Option<Vec<u8>>> {
+    Ok(match arguments {
+        ["lister"] => Some(lister_text()?),
+        ["lists", "--input", number] => {
+            let inputs = sheets::list_inputs();
+            number.parse().ok().and_then(|i: usize| inputs.get(i).cloned())
+        }
+        [kind] => printed(kind, |vector| line(vector.text_line())),
+        [kind, "--bytes"] => printed(kind, Vector::stream),
+        [kind, "--answers"] => printed(kind, |vector| line(vector.answer_line())),
+        _ => None,
+    })
+}
+
+fn main() -> io::Result<()> {
+    let arguments: Vec<String> = std::env::args().skip(1).collect();
+    let arguments: Vec<&str> = arguments.iter().map(String::as_str).collect();
+    match output(&arguments)? {
+        Some(bytes) => io::stdout().write_all(&bytes),
+        None => {
+            eprintln!("vectors blocks|writes|checks|sheets|plots|lists|generators [--bytes|--answers]");
+            std::process::exit(2)
+        }
+    }
+}
+
+#[cfg(test)]
+mod tests {
+    use super::*;
+    use std::collections::BTreeSet;
+
+    /// Each kind has an accepted vector and one for each refusal that its entries can give.
+    #[test]
+    fn every_number_occurs() {
+        let expected: [(&str, &[usize]); 5] = [
+            ("blocks", &[0, 1, 2, 3, 4]),
+            ("writes", &[0, 1, 2]),
+            ("checks", &[0, 1, 2]),
+            ("sheets", &[0, 1, 2, 3, 4]),
+            ("plots", &[0, 2, 5, 6, 7, 8, 9, 10]),
+        ];
+        for (kind, numbers) in expected {
+            let found: BTreeSet<usize> = vectors(kind).unwrap().iter().map(|vector| vector.answer[0]).collect();
+            assert_eq!(found, numbers.iter().copied().collect());
+        }
+    }
+
+    #[test]
+    fn a_vector_is_printed_as_the_header_says() {
+        let second = &vectors("blocks").unwrap()[1];
+        assert_eq!(second.text_line(), "4 3 0 1 1 | 4 9 14 7 1 | 4 = 0 0 1 8 14 7 1");
+        assert_eq!(second.answer_line(), "0 0 1 8 14 7 1");
+        let stream = [4, 0, 3, 0, 0, 0, 1, 0, 1, 0, 4, 0, 9, 14, 7, 1, 4, 0];
+        assert_eq!(second.stream(), stream);
+    }
+}

@@ -1,0 +1,176 @@
+//! Vectors for sheets, written and read, and for the lister.
+
+use crate::vector::{answer, profile_fields, Field, Vector};
+use second::random::Random;
+use second::{cases, lister, plot, sheet, Profile};
+
+/// n, r, b, L and D of the random sheets.
+const PROFILES: [(usize, usize, usize, usize, usize); 10] = [
+    (3, 2, 0, 1, 8),
+    (4, 3, 0, 2, 2),
+    (20, 8, 7, 7, 5),
+    (12, 5, 200, 2, 16),
+    (30, 10, 100, 5, 3),
+    (16, 4, 31, 2, 16),
+    (65, 64, 1, 32, 2),
+    (90, 21, 17, 20, 4),
+    (255, 64, 254, 63, 1),
+    (255, 16, 0, 8, 16),
+];
+
+fn profile((n, r, b, limit, depth): (usize, usize, usize, usize, usize)) -> Profile {
+    Profile { n, r, b, limit, depth }
+}
+
+fn write_vector(profile: &Profile, payload: &[u8], mut cells: Vec<u8>) -> Vector {
+    let mut fields = vec![Field::Byte(0)];
+    fields.extend(profile_fields(profile));
+    fields.extend([Field::Bytes(payload.into()), Field::Bytes(cells.clone())]);
+    let numbers = match sheet::write(profile, payload, &mut cells) {
+        Ok(()) => [0, 0],
+        Err(refusal) => [refusal.number.into(), refusal.place],
+    };
+    Vector {
+        fields,
+        answer: answer(&numbers, &[&cells]),
+    }
+}
+
+fn read_vector(profile: &Profile, cells: &[u8], mut scratch: Vec<u8>, mut payload: Vec<u8>) -> Vector {
+    let mut fields = vec![Field::Byte(1)];
+    fields.extend(profile_fields(profile));
+    fields.extend([cells, &scratch, &payload].map(|buffer| Field::Bytes(buffer.into())));
+    let numbers = match sheet::read(profile, cells, &mut scratch, &mut payload) {
+        Ok(changed) => [0, changed],
+        Err(refusal) => [refusal.number.into(), refusal.place],
+    };
+    Vector {
+        fields,
+        answer: answer(&numbers, &[&scratch, &payload]),
+    }
+}
+
+/// Replaces the cells of a run of the sheet.
+fn damage(cells: &[u8], length: usize, random: &mut Random) -> Vec<u8> {
+    let mut damaged = cells.to_vec();
+    let start = random.between(0, cells.len() - length);
+    damaged[start..start + length].copy_from_slice(&random.bytes(length));
+    damaged
+}
+
+/// Replaces all cells of the blocks from this one on by noise.
+fn damage_blocks(profile: &Profile, cells: &[u8], from: usize, random: &mut Random) -> Vec<u8> {
+    let noise = random.bytes(cells.len());
+    let choose = |p: usize| if p % profile.depth < from { cells[p] } else { noise[p] };
+    (0..cells.len()).map(choose).collect()
+}
+
+/// Written, then read clean or damaged within the promise, beyond it, and with its last blocks lost.
+fn random_sheets(profile: &Profile, random: &mut Random) -> Vec<Vector> {
+    let (cells, bytes) = (profile.depth * profile.n, profile.depth * profile.k());
+    let payload = random.bytes(bytes);
+    let mut written = vec![0; cells];
+    sheet::write(profile, &payload, &mut written).expect("a good profile");
+    let promise = profile.depth * profile.h();
+    let within = random.between(promise / 2, promise);
+    let beyond = random.between(promise + 1, profile.depth * profile.r);
+    let from = random.between(profile.depth / 2, profile.depth - 1);
+    let mut sheets = vec![damage(&written, within, random), damage(&written, beyond, random)];
+    sheets.push(damage_blocks(profile, &written, from, random));
+    if profile.n < 30 {
+        sheets.push(written);
+    }
+    let mut vectors = vec![write_vector(profile, &payload, random.bytes(cells))];
+    for damaged in sheets {
+        let (scratch, payload) = (random.bytes(cells), random.bytes(bytes));
+        vectors.push(read_vector(profile, &damaged, scratch, payload));
+    }
+    vectors
+}
+
+/// Sheets of document 01's blocks 8 14 7 1 (clean), 8 14 0 0 (tied) and 9 14 7 0 (torn), L being 2.
+fn lowest_refused() -> Vec<Vector> {
+    let [clean, ambiguous, unreachable] = [[8, 14, 7, 1], [8, 14, 0, 0], [9, 14, 7, 0]];
+    let rows = [
+        [clean, ambiguous, unreachable],
+        [unreachable, clean, ambiguous],
+        [clean, clean, unreachable],
+        [ambiguous, unreachable, unreachable],
+        [clean; 3],
+    ];
+    let vector = |blocks: [[u8; 4]; 3]| {
+        let cells: Vec<u8> = (0..12).map(|p| blocks[p % 3][p / 3]).collect();
+        read_vector(&profile((4, 3, 0, 2, 3)), &cells, vec![170; 12], vec![170; 3])
+    };
+    rows.map(vector).into()
+}
+
+/// Refusals 1 and 2, 1 before 2.
+fn refused() -> Vec<Vector> {
+    let mut vectors = Vec::new();
+    for bad in cases::profiles_out_of_range() {
+        vectors.push(write_vector(&bad, &[1], vec![170; 4]));
+        vectors.push(read_vector(&bad, &[9; 4], vec![170; 4], vec![170; 1]));
+    }
+    let good = profile((4, 3, 0, 2, 2));
+    for (a, b, c) in [
+        (7, 8, 2),
+        (9, 8, 2),
+        (8, 7, 2),
+        (8, 9, 2),
+        (8, 8, 1),
+        (8, 8, 3),
+        (4, 4, 1),
+        (0, 0, 0),
+    ] {
+        vectors.push(read_vector(&good, &vec![9; a], vec![170; b], vec![170; c]));
+    }
+    for (a, b) in [(1, 8), (3, 8), (2, 7), (2, 9), (0, 0)] {
+        vectors.push(write_vector(&good, &vec![9; a], vec![170; b]));
+    }
+    vectors
+}
+
+pub fn sheets() -> Vec<Vector> {
+    let mut random = Random::new(201);
+    let mut vectors = vec![write_vector(&profile((4, 3, 0, 0, 2)), &[1, 0], vec![170; 8])];
+    for numbers in PROFILES {
+        vectors.extend(random_sheets(&profile(numbers), &mut random));
+    }
+    vectors.extend(lowest_refused());
+    vectors.extend(refused());
+    vectors
+}
+
+/// The lister's inputs: those with texts found by hand, then written sheets of plots, damaged within the promise.
+pub fn list_inputs() -> Vec<Vec<u8>> {
+    let mut random = Random::new(202);
+    let mut inputs: Vec<Vec<u8>> = cases::lists().into_iter().map(|(input, _)| input).collect();
+    for numbers in PROFILES {
+        let profile = profile(numbers);
+        let mut payload = vec![0; profile.depth * profile.k()];
+        for number in [1, 256, 65535] {
+            // A plot that finds no space is left out.
+            let count = random.between(0, 40) as u8;
+            let lines: Vec<u8> = (1..=count).flat_map(|i| [i * 2, 200, random.nonzero()]).collect();
+            let _ = plot::add(&mut payload, number, &lines);
+        }
+        let mut cells = vec![0; profile.depth * profile.n];
+        sheet::write(&profile, &payload, &mut cells).expect("a good profile");
+        let damaged = damage(&cells, profile.depth * profile.h(), &mut random);
+        let (n, r, b, limit, depth) = numbers;
+        inputs.push([&[n, r, b, limit, depth].map(|x| x as u8)[..], &damaged].concat());
+    }
+    inputs
+}
+
+pub fn lists() -> Vec<Vector> {
+    let vector = |input: Vec<u8>| {
+        let text = lister::list(&input);
+        Vector {
+            answer: answer(&[text.len()], &[&text]),
+            fields: vec![Field::Bytes(input)],
+        }
+    };
+    list_inputs().into_iter().map(vector).collect()
+}

@@ -1,0 +1,156 @@
+//! Blocks: profile, codeword test, writing and correction, by brute force.
+//! Writing solves a linear system for the check cells. Correction tries every run in order of length and
+//! solves, for each, the system of its cells against the r syndromes.
+
+use crate::gf::{power, products};
+use crate::linear::{solve, Elimination, Solutions};
+use crate::refusal::{refuse, Refusal, AMBIGUOUS, BUFFER_LENGTH, NO_CODEWORD, PROFILE_RANGE};
+
+/// Document 01: a profile, with L as `limit` and D as `depth`.
+#[derive(Clone, Copy, Debug, PartialEq, Eq)]
+pub struct Profile {
+    pub n: usize,
+    pub r: usize,
+    pub b: usize,
+    pub limit: usize,
+    pub depth: usize,
+}
+
+impl Profile {
+    /// Message bytes in a block.
+    pub fn k(&self) -> usize {
+        self.n - self.r
+    }
+
+    /// r/2 rounded down.
+    pub fn h(&self) -> usize {
+        self.r / 2
+    }
+
+    /// Refusal 1 unless all five numbers are within their ranges.
+    pub fn check(&self) -> Result<(), Refusal> {
+        let within = (3..=255).contains(&self.n)
+            && (2..=64).contains(&self.r)
+            && self.r < self.n
+            && self.b <= 254
+            && self.limit < self.r
+            && (1..=16).contains(&self.depth);
+        if within {
+            Ok(())
+        } else {
+            refuse(PROFILE_RANGE, 0)
+        }
+    }
+
+    /// What a 1 in this cell adds to the r syndromes.
+    fn column(&self, cell: usize) -> Vec<u8> {
+        (0..self.r).map(|i| power((self.b + i) * cell)).collect()
+    }
+}
+
+/// Document 01: a run, `start + length` being at most n.
+#[derive(Clone, Copy, Debug, PartialEq, Eq)]
+pub struct Run {
+    pub start: usize,
+    pub length: usize,
+}
+
+/// Refusal 2 unless, in each pair, a lent buffer's length is the due one.
+pub fn check_lengths(pairs: &[(usize, usize)]) -> Result<(), Refusal> {
+    if pairs.iter().all(|(length, due)| length == due) {
+        Ok(())
+    } else {
+        refuse(BUFFER_LENGTH, 0)
+    }
+}
+
+/// Syndrome i is the value of the cells' polynomial at α^(b+i).
+pub fn syndromes(profile: &Profile, cells: &[u8]) -> Vec<u8> {
+    let mut values = vec![0; profile.r];
+    for (cell, &content) in cells.iter().enumerate() {
+        let multiples = &products()[usize::from(content)];
+        for (value, x) in values.iter_mut().zip(profile.column(cell)) {
+            *value ^= multiples[usize::from(x)];
+        }
+    }
+    values
+}
+
+/// The checker: whether the cells are a codeword.
+pub fn is_codeword(profile: &Profile, cells: &[u8]) -> Result<bool, Refusal> {
+    profile.check()?;
+    check_lengths(&[(cells.len(), profile.n)])?;
+    Ok(syndromes(profile, cells).iter().all(|&x| x == 0))
+}
+
+/// The writer: the codeword with this message in cells r to n−1.
+pub fn write(profile: &Profile, message: &[u8], cells: &mut [u8]) -> Result<(), Refusal> {
+    profile.check()?;
+    check_lengths(&[(message.len(), profile.k()), (cells.len(), profile.n)])?;
+    let mut codeword = vec![0; profile.r];
+    codeword.extend(message);
+    let columns: Vec<Vec<u8>> = (0..profile.r).map(|cell| profile.column(cell)).collect();
+    let Solutions::One(checks) = solve(&columns, &syndromes(profile, &codeword)) else {
+        panic!("the check cells are fixed by the message");
+    };
+    codeword[..profile.r].copy_from_slice(&checks);
+    cells.copy_from_slice(&codeword);
+    Ok(())
+}
+
+/// Document 01's mender: the one codeword within a shortest run, and that run.
+pub fn correct(profile: &Profile, read: &[u8], corrected: &mut [u8]) -> Result<Run, Refusal> {
+    profile.check()?;
+    check_lengths(&[(read.len(), profile.n), (corrected.len(), profile.n)])?;
+    let (run, codeword) = search(profile, read)?;
+    corrected.copy_from_slice(&codeword);
+    Ok(run)
+}
+
+/// Tries the lengths in turn and, for each, every start; ends at the first length that reaches a codeword.
+fn search(profile: &Profile, read: &[u8]) -> Result<(Run, Vec<u8>), Refusal> {
+    let columns: Vec<Vec<u8>> = (0..profile.n).map(|cell| profile.column(cell)).collect();
+    let unsolved = Elimination::new(&syndromes(profile, read), profile.limit);
+    // systems[s] has the columns of the cells of the run that starts at s.
+    let mut systems = vec![unsolved; profile.n + 1];
+    for length in 0..=profile.limit {
+        let mut reached = Vec::new();
+        for (start, system) in systems.iter_mut().enumerate().take(profile.n - length + 1) {
+            if length > 0 {
+                system.add_column(&columns[start + length - 1]);
+            }
+            match system.solutions() {
+                Solutions::None => {}
+                Solutions::One(errors) => reached.push((start, without(read, start, &errors))),
+                Solutions::Many => panic!("fewer than r columns are independent"),
+            }
+        }
+        if !reached.is_empty() {
+            return only(length, reached);
+        }
+    }
+    refuse(NO_CODEWORD, 0)
+}
+
+/// The read cells with the errors taken off from this start on.
+fn without(read: &[u8], start: usize, errors: &[u8]) -> Vec<u8> {
+    let mut cells = read.to_vec();
+    for (cell, error) in cells[start..].iter_mut().zip(errors) {
+        *cell ^= error;
+    }
+    cells
+}
+
+/// The run and codeword, unless different codewords were reached at this length.
+fn only(length: usize, mut reached: Vec<(usize, Vec<u8>)>) -> Result<(Run, Vec<u8>), Refusal> {
+    if reached.iter().any(|(_, codeword)| *codeword != reached[0].1) {
+        return refuse(AMBIGUOUS, 0);
+    }
+    // Two starts for one codeword would leave a shorter run, their common part.
+    debug_assert!(length == 0 || reached.len() == 1);
+    let (start, codeword) = reached.swap_remove(0);
+    Ok((Run { start, length }, codeword))
+}
+
+#[cfg(test)]
+mod tests;

@@ -1,0 +1,247 @@
+//! Document 01's examples on blocks, and the correction against an independent listing of all codewords.
+
+use super::*;
+use crate::cases;
+use crate::random::Random;
+
+const UNTOUCHED: u8 = 170;
+
+fn refused<T>(number: u8) -> Result<T, Refusal> {
+    refuse(number, 0)
+}
+
+#[test]
+fn document_01_bench_sheet_of_corrections() {
+    for case in cases::corrections() {
+        let mut corrected = [UNTOUCHED; 4];
+        let result = correct(&case.profile, &case.read, &mut corrected);
+        match case.expected {
+            Ok((codeword, start, length)) => {
+                assert_eq!(result, Ok(Run { start, length }));
+                assert_eq!(corrected, codeword);
+            }
+            Err(number) => {
+                assert_eq!(result, refused(number));
+                assert_eq!(corrected, [UNTOUCHED; 4]);
+            }
+        }
+    }
+}
+
+#[test]
+fn document_01_written_blocks() {
+    for (profile, message, expected) in cases::written_blocks() {
+        let mut cells = vec![UNTOUCHED; expected.len()];
+        assert_eq!(write(&profile, &message, &mut cells), Ok(()));
+        assert_eq!(cells, expected);
+        assert_eq!(is_codeword(&profile, &cells), Ok(true));
+    }
+}
+
+/// Every profile number just outside its range, on every entry, with buffers of wrong length too.
+#[test]
+fn profile_range_comes_first() {
+    let huge = [
+        (usize::MAX, 3, 0, 0, 1),
+        (4, usize::MAX, 0, 0, 1),
+        (4, 3, usize::MAX, 0, 1),
+        (4, 3, 0, usize::MAX, 1),
+    ];
+    let huge = huge.map(|(n, r, b, limit, depth)| Profile { n, r, b, limit, depth });
+    for profile in cases::profiles_out_of_range().into_iter().chain(huge) {
+        let mut cells = [UNTOUCHED; 9];
+        for length in [0, 4, 9] {
+            assert_eq!(is_codeword(&profile, &cells[..length]), refused(PROFILE_RANGE));
+            assert_eq!(write(&profile, &[1], &mut cells[..length]), refused(PROFILE_RANGE));
+            assert_eq!(correct(&profile, &[0; 4], &mut cells[..length]), refused(PROFILE_RANGE));
+        }
+        assert_eq!(cells, [UNTOUCHED; 9]);
+    }
+}
+
+#[test]
+fn extreme_profiles_are_accepted() {
+    for (n, r, b, limit, depth) in [
+        (3, 2, 0, 0, 1),
+        (255, 64, 254, 63, 16),
+        (65, 64, 0, 63, 1),
+        (255, 2, 254, 1, 16),
+    ] {
+        assert_eq!(Profile { n, r, b, limit, depth }.check(), Ok(()));
+    }
+}
+
+#[test]
+fn lengths_come_second() {
+    let profile = Profile {
+        n: 4,
+        r: 3,
+        b: 0,
+        limit: 2,
+        depth: 1,
+    };
+    let mut cells = [UNTOUCHED; 9];
+    for (first, second) in [(3, 4), (5, 4), (0, 4), (4, 3), (4, 5), (4, 0)] {
+        assert_eq!(
+            correct(&profile, &vec![9; first], &mut cells[..second]),
+            refused(BUFFER_LENGTH)
+        );
+    }
+    for (first, second) in [(0, 4), (2, 4), (1, 3), (1, 5)] {
+        assert_eq!(
+            write(&profile, &vec![1; first], &mut cells[..second]),
+            refused(BUFFER_LENGTH)
+        );
+    }
+    assert_eq!(is_codeword(&profile, &[0; 3]), refused(BUFFER_LENGTH));
+    assert_eq!(is_codeword(&profile, &[0; 5]), refused(BUFFER_LENGTH));
+    assert_eq!(cells, [UNTOUCHED; 9]);
+}
+
+/// The verdict by listing all codewords of a block with one message byte: the shortest run that covers
+/// all cells in which the two differ.
+fn by_listing(profile: &Profile, read: &[u8]) -> Result<(Run, Vec<u8>), Refusal> {
+    let mut reached: Vec<(Run, Vec<u8>)> = Vec::new();
+    for message in 0..=255u8 {
+        let mut codeword = vec![0; profile.n];
+        write(profile, &[message], &mut codeword).unwrap();
+        let differs = |i: &usize| read[*i] != codeword[*i];
+        let run = match ((0..profile.n).find(differs), (0..profile.n).rfind(differs)) {
+            (Some(start), Some(last)) => Run {
+                start,
+                length: last + 1 - start,
+            },
+            _ => Run { start: 0, length: 0 },
+        };
+        reached.push((run, codeword));
+    }
+    let least = reached.iter().map(|(run, _)| run.length).min().unwrap();
+    reached.retain(|(run, _)| run.length == least);
+    match reached.len() {
+        _ if least > profile.limit => refused(NO_CODEWORD),
+        1 => Ok(reached.remove(0)),
+        _ => refused(AMBIGUOUS),
+    }
+}
+
+#[test]
+fn agrees_with_listing_all_codewords() {
+    let mut random = Random::new(21);
+    let mut counts = [0; 5];
+    for round in 0..400 {
+        let r = random.between(2, 6);
+        let b = random.between(0, 254);
+        let limit = random.between(0, r - 1);
+        let profile = Profile {
+            n: r + 1,
+            r,
+            b,
+            limit,
+            depth: 1,
+        };
+        let mut read = vec![0; r + 1];
+        write(&profile, &[random.byte()], &mut read).unwrap();
+        if round % 4 == 0 {
+            // Half of the zero codeword, so that two codewords are equally near.
+            read[r.div_ceil(2)..].fill(0);
+            read[r / 2] = random.byte();
+        }
+        for _ in 0..round % 4 {
+            read[random.between(0, r)] = random.byte();
+        }
+        let mut corrected = vec![UNTOUCHED; r + 1];
+        let result = correct(&profile, &read, &mut corrected);
+        let expected = by_listing(&profile, &read);
+        assert_eq!(result, expected.clone().map(|(run, _)| run));
+        assert_eq!(
+            corrected,
+            expected.map_or(vec![UNTOUCHED; r + 1], |(_, codeword)| codeword)
+        );
+        counts[result.map_or_else(|refusal| usize::from(refusal.number), |_| 0)] += 1;
+    }
+    assert!(counts[0] > 50 && counts[3] > 50 && counts[4] > 10, "{counts:?}");
+}
+
+/// The same search, with each run's system solved afresh.
+#[test]
+fn agrees_with_solving_each_run_afresh() {
+    let mut random = Random::new(22);
+    for _ in 0..60 {
+        let n = random.between(6, 24);
+        let r = random.between(2, 5);
+        let profile = Profile {
+            n,
+            r,
+            b: random.between(0, 254),
+            limit: r - 1,
+            depth: 1,
+        };
+        let mut read = vec![0; n];
+        write(&profile, &random.bytes(n - r), &mut read).unwrap();
+        let width = random.between(0, r);
+        let start = random.between(0, n - width);
+        read[start..start + width].copy_from_slice(&random.bytes(width));
+        let target = syndromes(&profile, &read);
+        let columns: Vec<Vec<u8>> = (0..n).map(|cell| profile.column(cell)).collect();
+        let starts = |length: usize| {
+            let solved = |s: &usize| solve(&columns[*s..*s + length], &target) != Solutions::None;
+            (0..=n - length).filter(solved).collect::<Vec<usize>>()
+        };
+        let least = (0..r).find(|&length| !starts(length).is_empty());
+        match correct(&profile, &read, &mut vec![0; n]) {
+            Ok(run) => {
+                assert_eq!(Some(run.length), least);
+                assert_eq!(run.start, starts(run.length)[0]);
+            }
+            Err(refusal) if refusal.number == NO_CODEWORD => assert_eq!(least, None),
+            Err(_) => assert!(starts(least.unwrap()).len() > 1),
+        }
+    }
+}
+
+#[test]
+fn runs_up_to_h_come_back() {
+    let mut random = Random::new(23);
+    for (n, r, b) in [
+        (255, 64, 254),
+        (255, 16, 0),
+        (100, 33, 120),
+        (65, 64, 1),
+        (3, 2, 17),
+        (40, 7, 200),
+    ] {
+        let profile = Profile {
+            n,
+            r,
+            b,
+            limit: r - 1,
+            depth: 1,
+        };
+        let mut codeword = vec![0; n];
+        write(&profile, &random.bytes(n - r), &mut codeword).unwrap();
+        let length = random.between(1, r / 2);
+        for start in [0, n - length, random.between(0, n - length)] {
+            let mut read = codeword.clone();
+            read[start] ^= random.nonzero();
+            read[start + length - 1] = codeword[start + length - 1] ^ random.nonzero();
+            let mut corrected = vec![UNTOUCHED; n];
+            assert_eq!(correct(&profile, &read, &mut corrected), Ok(Run { start, length }));
+            assert_eq!(corrected, codeword);
+        }
+    }
+}
+
+/// A cyclic block of 255 cells with its first and last cell wrong: no run, as a run never wraps.
+#[test]
+fn a_run_never_wraps() {
+    let profile = Profile {
+        n: 255,
+        r: 8,
+        b: 3,
+        limit: 2,
+        depth: 1,
+    };
+    let mut read = vec![0; 255];
+    (read[0], read[254]) = (5, 6);
+    assert_eq!(correct(&profile, &read, &mut [0; 255]), refused(NO_CODEWORD));
+}

@@ -1,0 +1,305 @@
+//! Examples with answers found by hand: document 01's bench sheet, and tables of refusals with their places.
+//! The unit tests hold the library to them, and the test vectors include their inputs.
+
+use crate::block::Profile;
+use crate::plot::record;
+
+/// Number and place of a refusal.
+pub type Place = (u8, usize);
+
+/// A row of document 01's table of read blocks.
+pub struct Correction {
+    pub profile: Profile,
+    pub read: [u8; 4],
+    /// The codeword, start and length, or the refusal's number.
+    pub expected: Result<([u8; 4], usize, usize), u8>,
+}
+
+/// Document 01's table of read blocks, for n=4, r=3, b=0.
+pub fn corrections() -> Vec<Correction> {
+    let codeword = [8, 14, 7, 1];
+    let rows = [
+        (codeword, 0, Ok((codeword, 0, 0))),
+        ([9, 14, 7, 1], 1, Ok((codeword, 0, 1))),
+        ([9, 14, 7, 1], 0, Err(3)),
+        ([9, 15, 7, 1], 2, Ok((codeword, 0, 2))),
+        ([8, 15, 6, 1], 2, Ok((codeword, 1, 2))),
+        ([8, 14, 0, 0], 1, Err(3)),
+        ([8, 14, 0, 0], 2, Err(4)),
+        ([9, 14, 7, 0], 2, Err(3)),
+        (codeword, 3, Err(1)),
+        ([9, 14, 7, 0], 3, Err(1)),
+    ];
+    let row = |(read, limit, expected)| Correction {
+        profile: Profile {
+            n: 4,
+            r: 3,
+            b: 0,
+            limit,
+            depth: 1,
+        },
+        read,
+        expected,
+    };
+    rows.map(row).into()
+}
+
+/// Document 01's written blocks, for n=5, r=2, b=1: profile, message, codeword.
+pub fn written_blocks() -> Vec<(Profile, Vec<u8>, Vec<u8>)> {
+    let profile = Profile {
+        n: 5,
+        r: 2,
+        b: 1,
+        limit: 0,
+        depth: 1,
+    };
+    vec![
+        (profile, vec![1, 0, 0], vec![8, 6, 1, 0, 0]),
+        (profile, vec![0, 1, 0], vec![48, 28, 0, 1, 0]),
+    ]
+}
+
+/// Profiles with a number outside its range.
+pub fn profiles_out_of_range() -> Vec<Profile> {
+    let rows = [
+        (2, 1, 0, 0, 1),
+        (2, 2, 0, 0, 1),
+        (0, 0, 0, 0, 0),
+        (256, 3, 0, 0, 1),
+        (65535, 3, 0, 0, 1),
+        (4, 1, 0, 0, 1),
+        (4, 0, 0, 0, 1),
+        (4, 4, 0, 0, 1),
+        (4, 5, 0, 0, 1),
+        (255, 65, 0, 0, 1),
+        (4, 3, 255, 0, 1),
+        (4, 3, 256, 0, 1),
+        (4, 3, 65535, 0, 1),
+        (4, 3, 0, 3, 1),
+        (4, 3, 0, 65535, 1),
+        (255, 64, 0, 64, 1),
+        (4, 3, 0, 0, 0),
+        (4, 3, 0, 0, 17),
+        (4, 3, 0, 0, 65535),
+    ];
+    rows.map(|(n, r, b, limit, depth)| Profile { n, r, b, limit, depth })
+        .into()
+}
+
+/// One tally line: species 3, class 32, count 2.
+const LINE: [u8; 3] = [3, 32, 2];
+
+/// This many good lines.
+fn lines(count: u8) -> Vec<u8> {
+    (1..=count).flat_map(|i| [1 + i / 10, 100 + i, 255]).collect()
+}
+
+/// Records of these plots, one line each.
+fn plots(numbers: &[u16]) -> Vec<u8> {
+    numbers.iter().flat_map(|&plot| record(plot, &LINE)).collect()
+}
+
+/// The eight bytes of a record of plot 7, then these bytes.
+fn after_plot_7(bytes: &[u8]) -> Vec<u8> {
+    [&plots(&[7]), bytes].concat()
+}
+
+/// Payloads with number and place of the checker's answer, 0 and 0 if accepted.
+pub fn payloads() -> Vec<(Vec<u8>, u8, usize)> {
+    [
+        accepted_payloads(),
+        payloads_with_bad_header(),
+        payloads_with_bad_plot(),
+    ]
+    .concat()
+}
+
+fn accepted_payloads() -> Vec<(Vec<u8>, u8, usize)> {
+    let accepted = [
+        vec![],
+        vec![0],
+        vec![0; 4048],
+        plots(&[7]),
+        after_plot_7(&[0; 5]),
+        record(1, &[]),
+        record(65535, &[99, 200, 255]),
+        record(9, &lines(40)),
+        plots(&[1, 2, 255, 256, 65535]),
+        record(7, &[1, 1, 1, 1, 2, 1, 2, 1, 1]),
+    ];
+    accepted.map(|payload| (payload, 0, 0)).into()
+}
+
+fn payloads_with_bad_header() -> Vec<(Vec<u8>, u8, usize)> {
+    vec![
+        (vec![0; 4049], 2, 0),
+        (vec![1; 4049], 2, 0),
+        (vec![0, 1], 5, 0),
+        (vec![0, 0, 0, 7], 5, 0),
+        (after_plot_7(&[0, 0, 9, 0]), 5, 8),
+        (after_plot_7(&[&[0], &plots(&[8])[..]].concat()), 5, 8),
+        (vec![0x50], 6, 0),
+        (vec![0x4C], 5, 0),
+        (after_plot_7(&[0x50]), 6, 8),
+        (after_plot_7(&[0x51]), 5, 8),
+        (vec![0x50, 0], 5, 0),
+        (vec![0x50, 0x4D, 7, 0, 0], 5, 0),
+        (vec![0x51, 0x4C, 7, 0, 0], 5, 0),
+        (vec![0x4C, 0x50, 7, 0, 0], 5, 0),
+        (vec![0x50, 0x4C], 6, 0),
+        (vec![0x50, 0x4C, 0, 0], 6, 0),
+        (after_plot_7(&[0x50, 0x4C, 8]), 6, 8),
+        (after_plot_7(&[0x50, 0x4D, 8]), 5, 8),
+        (vec![0x50, 0x4C, 0, 0, 41], 7, 0),
+        (vec![0x50, 0x4C, 7, 0, 255], 7, 0),
+        (after_plot_7(&record(8, &lines(41))), 7, 8),
+        (vec![0x50, 0x4C, 0, 0, 1], 6, 0),
+        (vec![0x50, 0x4C, 7, 0, 1, 3, 32], 6, 0),
+        (vec![0x50, 0x4C, 7, 0, 2, 0, 0, 0, 3, 32], 6, 0),
+        (after_plot_7(&[0x50, 0x4C, 6, 0, 40]), 6, 8),
+    ]
+}
+
+fn payloads_with_bad_plot() -> Vec<(Vec<u8>, u8, usize)> {
+    vec![
+        (record(0, &[]), 7, 0),
+        (after_plot_7(&record(0, &LINE)), 7, 8),
+        (record(7, &[0, 32, 2]), 7, 0),
+        (record(7, &[100, 32, 2]), 7, 0),
+        (record(7, &[3, 0, 2]), 7, 0),
+        (record(7, &[3, 201, 2]), 7, 0),
+        (record(7, &[3, 32, 0]), 7, 0),
+        (record(7, &[3, 32, 2, 3, 32, 2]), 7, 0),
+        (record(7, &[3, 32, 2, 3, 31, 2]), 7, 0),
+        (record(7, &[3, 32, 2, 2, 33, 2]), 7, 0),
+        (after_plot_7(&record(8, &[1, 1, 1, 1, 2, 1, 1, 2, 1])), 7, 8),
+        (after_plot_7(&record(6, &[3, 32, 0])), 7, 8),
+        (plots(&[7, 7]), 8, 8),
+        (plots(&[7, 6]), 8, 8),
+        (plots(&[256, 255]), 8, 8),
+        (plots(&[1, 2, 3, 3]), 8, 24),
+        ([plots(&[7, 7]), vec![0, 1]].concat(), 8, 8),
+        ([plots(&[7, 8]), vec![0, 1]].concat(), 5, 16),
+        ([record(7, &[3, 32, 0]), plots(&[6])].concat(), 7, 0),
+    ]
+}
+
+/// Payload, plot asked for, and its record's first byte and length or the refusal.
+pub type Ask = (Vec<u8>, u16, Result<(usize, usize), Place>);
+
+/// Asks for plots that are there, absent, or in a refused payload.
+pub fn asks() -> Vec<Ask> {
+    let three = [plots(&[7]), record(8, &[]), record(300, &lines(40)), vec![0; 6]].concat();
+    vec![
+        (three.clone(), 7, Ok((0, 8))),
+        (three.clone(), 8, Ok((8, 5))),
+        (three.clone(), 300, Ok((13, 125))),
+        (three.clone(), 0, Err((9, 0))),
+        (three.clone(), 9, Err((9, 0))),
+        (three.clone(), 44, Err((9, 0))),
+        (three, 65535, Err((9, 0))),
+        (record(65535, &[]), 65535, Ok((0, 5))),
+        (vec![], 1, Err((9, 0))),
+        (vec![], 0, Err((9, 0))),
+        (vec![0; 20], 1, Err((9, 0))),
+        (vec![0; 4049], 1, Err((2, 0))),
+        (plots(&[7, 7]), 7, Err((8, 8))),
+        (after_plot_7(&[0, 1]), 7, Err((5, 8))),
+        (after_plot_7(&[0x50, 0x4C]), 7, Err((6, 8))),
+        (after_plot_7(&record(8, &[0, 1, 1])), 7, Err((7, 8))),
+        (after_plot_7(&record(8, &[0, 1, 1])), 0, Err((7, 8))),
+    ]
+}
+
+/// Payload, plot and lines to add, and the record's first byte or the refusal.
+pub type Add = (Vec<u8>, u16, Vec<u8>, Result<usize, Place>);
+
+/// Adds to payloads with room, without room, and refused ones.
+pub fn adds() -> Vec<Add> {
+    [adds_with_room(), adds_with_faults(), adds_without_room()].concat()
+}
+
+fn adds_with_room() -> Vec<Add> {
+    vec![
+        (vec![0; 8], 7, LINE.into(), Ok(0)),
+        (vec![0; 5], 1, vec![], Ok(0)),
+        (vec![0; 12], 65535, LINE.into(), Ok(0)),
+        (after_plot_7(&[0; 8]), 8, LINE.into(), Ok(8)),
+        (after_plot_7(&[0; 9]), 256, vec![], Ok(8)),
+        (vec![0; 125], 9, lines(40), Ok(0)),
+        (vec![0; 4048], 9, lines(40), Ok(0)),
+    ]
+}
+
+fn adds_with_faults() -> Vec<Add> {
+    let room = after_plot_7(&[0; 40]);
+    let faults: [(u16, Vec<u8>, u8); 13] = [
+        (8, vec![3], 7),
+        (8, vec![3, 32], 7),
+        (8, vec![3, 32, 2, 4], 7),
+        (8, vec![1; 121], 7),
+        (8, lines(41), 7),
+        (8, vec![1; 300], 7),
+        (0, vec![], 7),
+        (0, LINE.into(), 7),
+        (8, vec![0, 1, 1], 7),
+        (8, vec![3, 32, 2, 3, 32, 2], 7),
+        (6, vec![3, 201, 2], 7),
+        (7, LINE.into(), 8),
+        (6, lines(40), 8),
+    ];
+    faults
+        .map(|(plot, lines, number)| (room.clone(), plot, lines, Err((number, 8))))
+        .into()
+}
+
+fn adds_without_room() -> Vec<Add> {
+    vec![
+        (vec![0; 7], 7, LINE.into(), Err((10, 0))),
+        (vec![], 7, vec![], Err((10, 0))),
+        (vec![0; 4], 7, vec![], Err((10, 0))),
+        (after_plot_7(&[0; 7]), 8, LINE.into(), Err((10, 8))),
+        (after_plot_7(&[]), 8, vec![], Err((10, 8))),
+        (after_plot_7(&[]), 7, vec![], Err((8, 8))),
+        (after_plot_7(&[]), 8, vec![1], Err((7, 8))),
+        (after_plot_7(&[]), 0, vec![], Err((7, 8))),
+        (vec![0; 124], 9, lines(40), Err((10, 0))),
+        (vec![0; 4049], 9, vec![1], Err((2, 0))),
+        (vec![0, 0, 1], 9, vec![1], Err((5, 0))),
+        (after_plot_7(&[0x50]), 0, vec![1], Err((6, 8))),
+        (plots(&[7, 8, 8]), 9, vec![], Err((8, 16))),
+        (record(7, &[0, 0, 0]), 8, vec![], Err((7, 0))),
+    ]
+}
+
+/// Inputs of the lister with their texts: document 01's two, then refusals.
+pub fn lists() -> Vec<(Vec<u8>, &'static str)> {
+    let sheet = [
+        [0xA0, 0x98, 0x0E, 0x00, 0x02, 0x06, 0x40, 0x04],
+        [0xF0, 0xD4, 0x09, 0x00, 0x03, 0x05, 0x60, 0x06],
+        [0x50, 0x4C, 0x07, 0x00, 0x01, 0x03, 0x20, 0x02],
+    ];
+    let profile = [3, 2, 0, 1, 8];
+    let whole = [&profile[..], &sheet.concat()].concat();
+    let erased = [&profile[..], &[0; 8], &sheet[1], &sheet[2]].concat();
+    let strict = [&[3, 2, 0, 0, 8], &erased[5..]].concat();
+    vec![
+        (whole.clone(), "plot,species,class,count\n7,3,32,2\nmended,0\n"),
+        (erased, "plot,species,class,count\n7,3,32,2\nmended,7\n"),
+        (strict, "refused,3,0\n"),
+        (whole[..28].into(), "refused,2,0\n"),
+        ([&whole[..], &[0]].concat(), "refused,2,0\n"),
+        (profile.into(), "refused,2,0\n"),
+        (profile[..4].into(), "refused,1,0\n"),
+        (vec![], "refused,1,0\n"),
+        ([&[3, 3, 0, 1, 8], &whole[5..]].concat(), "refused,1,0\n"),
+        (vec![3, 2, 255, 0, 1], "refused,1,0\n"),
+        (vec![4, 3, 0, 2, 1, 8, 14, 0, 0], "refused,4,0\n"),
+        (vec![4, 3, 0, 2, 2, 8, 9, 14, 14, 7, 7, 1, 0], "refused,3,1\n"),
+        (vec![4, 3, 0, 0, 1, 8, 14, 7, 1], "refused,5,0\n"),
+        (vec![4, 3, 0, 0, 2, 0, 8, 0, 14, 0, 7, 0, 1], "refused,5,0\n"),
+        (vec![4, 3, 0, 2, 2, 8, 0, 15, 0, 6, 0, 1, 0], "refused,5,0\n"),
+        (vec![4, 3, 0, 2, 1, 0, 0, 0, 9], "plot,species,class,count\nmended,1\n"),
+        (vec![3, 2, 0, 0, 1, 0, 0, 0], "plot,species,class,count\nmended,0\n"),
+    ]
+}

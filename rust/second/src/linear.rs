@@ -1,0 +1,136 @@
+//! Linear systems over GF(256), by Gaussian elimination one column at a time.
+//! Each stored column carries below its own entries the combination of given columns that it is, so a
+//! target reduced to zero shows its solution in the part below.
+
+use crate::gf::{inverse, products};
+
+/// The solutions x of A·x = v.
+#[derive(Clone, Debug, PartialEq, Eq)]
+pub enum Solutions {
+    None,
+    One(Vec<u8>),
+    Many,
+}
+
+/// A system A·x = v whose columns of A are given one after the other.
+#[derive(Clone)]
+pub struct Elimination {
+    rows: usize,
+    given: usize,
+    /// v reduced by the pivots so far, then the combination taken from it.
+    target: Vec<u8>,
+    /// Each with its pivot row, where it holds 1 and all later ones hold 0.
+    pivots: Vec<(usize, Vec<u8>)>,
+}
+
+impl Elimination {
+    /// The system with this v and no column yet; at most `most` columns will come.
+    pub fn new(target: &[u8], most: usize) -> Elimination {
+        let mut extended = target.to_vec();
+        extended.resize(target.len() + most, 0);
+        Elimination {
+            rows: target.len(),
+            given: 0,
+            target: extended,
+            pivots: Vec::new(),
+        }
+    }
+
+    /// Gives the next column of A.
+    pub fn add_column(&mut self, column: &[u8]) {
+        assert_eq!(column.len(), self.rows);
+        let mut vector = column.to_vec();
+        vector.resize(self.target.len(), 0);
+        vector[self.rows + self.given] = 1;
+        self.given += 1;
+        for (row, pivot) in &self.pivots {
+            clear(*row, pivot, &mut vector);
+        }
+        let Some(row) = vector[..self.rows].iter().position(|&x| x != 0) else {
+            return;
+        };
+        let factor = inverse(vector[row]).expect("a pivot is not zero");
+        for x in &mut vector {
+            *x = products()[usize::from(factor)][usize::from(*x)];
+        }
+        clear(row, &vector, &mut self.target);
+        self.pivots.push((row, vector));
+    }
+
+    /// The solutions with the columns given so far.
+    pub fn solutions(&self) -> Solutions {
+        let (rest, combination) = self.target.split_at(self.rows);
+        if rest.iter().any(|&x| x != 0) {
+            Solutions::None
+        } else if self.pivots.len() < self.given {
+            Solutions::Many
+        } else {
+            Solutions::One(combination[..self.given].to_vec())
+        }
+    }
+}
+
+/// Adds the multiple of the pivot column that makes the vector's entry in this row zero.
+fn clear(row: usize, pivot: &[u8], vector: &mut [u8]) {
+    let factor = vector[row];
+    if factor == 0 {
+        return;
+    }
+    let multiples = &products()[usize::from(factor)];
+    for (x, y) in vector.iter_mut().zip(pivot) {
+        *x ^= multiples[usize::from(*y)];
+    }
+}
+
+/// Solves A·x = v, A given by its columns.
+pub fn solve(columns: &[Vec<u8>], target: &[u8]) -> Solutions {
+    let mut system = Elimination::new(target, columns.len());
+    for column in columns {
+        system.add_column(column);
+    }
+    system.solutions()
+}
+
+#[cfg(test)]
+mod tests {
+    use super::*;
+    use crate::gf::product;
+    use crate::random::Random;
+
+    fn apply(columns: &[Vec<u8>], x: &[u8]) -> Vec<u8> {
+        let row = |i: usize| {
+            let terms = columns.iter().zip(x).map(|(c, &f)| product(c[i], f));
+            terms.fold(0, |sum, term| sum ^ term)
+        };
+        (0..columns[0].len()).map(row).collect()
+    }
+
+    /// Two unknowns: every pair is tried.
+    #[test]
+    fn agrees_with_trying_every_pair() {
+        let mut random = Random::new(11);
+        for _ in 0..40 {
+            let narrow = |random: &mut Random| (0..2).map(|_| random.between(0, 2) as u8).collect();
+            let columns: Vec<Vec<u8>> = (0..2).map(|_| narrow(&mut random)).collect();
+            let target: Vec<u8> = narrow(&mut random);
+            let pairs = (0..=255u8).flat_map(|a| (0..=255u8).map(move |b| vec![a, b]));
+            let mut found: Vec<Vec<u8>> = pairs.filter(|x| apply(&columns, x) == target).collect();
+            let expected = match found.len() {
+                0 => Solutions::None,
+                1 => Solutions::One(found.remove(0)),
+                _ => Solutions::Many,
+            };
+            assert_eq!(solve(&columns, &target), expected);
+        }
+    }
+
+    #[test]
+    fn a_solution_found_is_one() {
+        let mut random = Random::new(12);
+        for size in 1..20 {
+            let columns: Vec<Vec<u8>> = (0..size).map(|_| random.bytes(size + 2)).collect();
+            let x = random.bytes(size);
+            assert_eq!(solve(&columns, &apply(&columns, &x)), Solutions::One(x));
+        }
+    }
+}

@@ -1,0 +1,36 @@
+//! A small deterministic generator of numbers (xorshift, 64 bits).
+//! Tests and test vectors draw from it with fixed seeds, so each run gives the same.
+
+pub struct Random(u64);
+
+impl Random {
+    /// The seed must not be 0.
+    pub fn new(seed: u64) -> Random {
+        assert!(seed != 0);
+        Random(seed)
+    }
+
+    fn draw(&mut self) -> u64 {
+        self.0 ^= self.0 << 13;
+        self.0 ^= self.0 >> 7;
+        self.0 ^= self.0 << 17;
+        self.0
+    }
+
+    /// A number from `least` to `most`, both included.
+    pub fn between(&mut self, least: usize, most: usize) -> usize {
+        least + (self.draw() >> 11) as usize % (most - least + 1)
+    }
+
+    pub fn byte(&mut self) -> u8 {
+        self.between(0, 255) as u8
+    }
+
+    pub fn nonzero(&mut self) -> u8 {
+        self.between(1, 255) as u8
+    }
+
+    pub fn bytes(&mut self, length: usize) -> Vec<u8> {
+        (0..length).map(|_| self.byte()).collect()
+    }
+}

@@ -1,0 +1,180 @@
+//! Sheets: D blocks, interleaved cell by cell, and the payload that their messages make.
+//! Sheet cell p is cell p/D of block p mod D; payload byte q is message byte q mod k of block q/k.
+
+use crate::block::{self, check_lengths, Profile};
+use crate::refusal::Refusal;
+
+/// The cells of one block of a sheet.
+fn block_of(profile: &Profile, sheet: &[u8], block: usize) -> Vec<u8> {
+    let cells = (0..sheet.len()).filter(|p| p % profile.depth == block);
+    cells.map(|p| sheet[p]).collect()
+}
+
+/// The sheet writer.
+pub fn write(profile: &Profile, payload: &[u8], sheet: &mut [u8]) -> Result<(), Refusal> {
+    profile.check()?;
+    let Profile { n, depth, .. } = *profile;
+    check_lengths(&[(payload.len(), depth * profile.k()), (sheet.len(), depth * n)])?;
+    let mut blocks = vec![vec![0; n]; depth];
+    for (block, cells) in blocks.iter_mut().enumerate() {
+        let first = block * profile.k();
+        block::write(profile, &payload[first..first + profile.k()], cells)?;
+    }
+    for (p, cell) in sheet.iter_mut().enumerate() {
+        *cell = blocks[p % depth][p / depth];
+    }
+    Ok(())
+}
+
+/// The sheet reader; the result is the number of blocks changed.
+pub fn read(profile: &Profile, sheet: &[u8], scratch: &mut [u8], payload: &mut [u8]) -> Result<usize, Refusal> {
+    profile.check()?;
+    let Profile { n, depth, .. } = *profile;
+    check_lengths(&[
+        (sheet.len(), depth * n),
+        (scratch.len(), depth * n),
+        (payload.len(), depth * profile.k()),
+    ])?;
+    let result = correct_blocks(profile, sheet, scratch);
+    if result.is_ok() {
+        for (q, byte) in payload.iter_mut().enumerate() {
+            *byte = scratch[q / profile.k() * n + profile.r + q % profile.k()];
+        }
+    }
+    scratch.fill(0);
+    result
+}
+
+/// Corrects the blocks in turn, block t into cells t×n and on of the scratch; ends at the lowest refused.
+fn correct_blocks(profile: &Profile, sheet: &[u8], scratch: &mut [u8]) -> Result<usize, Refusal> {
+    let mut changed = 0;
+    for (number, codeword) in scratch.chunks_mut(profile.n).enumerate() {
+        let cells = block_of(profile, sheet, number);
+        let in_block = |refusal: Refusal| Refusal {
+            place: number,
+            ..refusal
+        };
+        block::correct(profile, &cells, codeword).map_err(in_block)?;
+        changed += usize::from(cells != codeword);
+    }
+    Ok(changed)
+}
+
+#[cfg(test)]
+mod tests {
+    use super::*;
+    use crate::cases;
+    use crate::random::Random;
+    use crate::refusal::{refuse, AMBIGUOUS, BUFFER_LENGTH, NO_CODEWORD, PROFILE_RANGE};
+
+    #[test]
+    fn document_01_written_sheet() {
+        let profile = Profile {
+            n: 4,
+            r: 3,
+            b: 0,
+            limit: 0,
+            depth: 2,
+        };
+        let mut sheet = [170; 8];
+        assert_eq!(write(&profile, &[1, 0], &mut sheet), Ok(()));
+        assert_eq!(sheet, [8, 0, 14, 0, 7, 0, 1, 0]);
+    }
+
+    /// A random profile, its payload and its written sheet.
+    fn random_sheet(random: &mut Random) -> (Profile, Vec<u8>, Vec<u8>) {
+        let r = random.between(2, 12);
+        let n = random.between(r + 1, r + 20);
+        let b = random.between(0, 254);
+        let limit = random.between(r / 2, r - 1);
+        let depth = random.between(1, 16);
+        let profile = Profile { n, r, b, limit, depth };
+        let payload = random.bytes(depth * (n - r));
+        let mut sheet = vec![170; depth * n];
+        write(&profile, &payload, &mut sheet).unwrap();
+        (profile, payload, sheet)
+    }
+
+    #[test]
+    fn written_sheets_come_back_within_the_promise() {
+        let mut random = Random::new(31);
+        for _ in 0..120 {
+            let (profile, payload, written) = random_sheet(&mut random);
+            let length = random.between(0, profile.depth * profile.h());
+            let start = random.between(0, written.len() - length);
+            let mut sheet = written.clone();
+            sheet[start..start + length].copy_from_slice(&random.bytes(length));
+            let changed = (0..profile.depth)
+                .filter(|&t| block_of(&profile, &sheet, t) != block_of(&profile, &written, t))
+                .count();
+            let mut scratch = random.bytes(sheet.len());
+            let mut found = random.bytes(payload.len());
+            assert_eq!(read(&profile, &sheet, &mut scratch, &mut found), Ok(changed));
+            assert_eq!(found, payload);
+            assert!(scratch.iter().all(|&x| x == 0));
+        }
+    }
+
+    /// Blocks 8 14 7 1 (clean), 8 14 0 0 (tied with 2), 9 14 7 0 (torn with 2) of document 01.
+    #[test]
+    fn the_lowest_refused_block_is_named() {
+        let [clean, ambiguous, unreachable] = [[8, 14, 7, 1], [8, 14, 0, 0], [9, 14, 7, 0]];
+        let table = [
+            ([clean, ambiguous, unreachable], AMBIGUOUS, 1),
+            ([unreachable, clean, ambiguous], NO_CODEWORD, 0),
+            ([clean, clean, unreachable], NO_CODEWORD, 2),
+            ([ambiguous, unreachable, unreachable], AMBIGUOUS, 0),
+        ];
+        for (blocks, number, place) in table {
+            let profile = Profile {
+                n: 4,
+                r: 3,
+                b: 0,
+                limit: 2,
+                depth: 3,
+            };
+            let sheet: Vec<u8> = (0..12).map(|p| blocks[p % 3][p / 3]).collect();
+            let (mut scratch, mut payload) = ([170; 12], [170; 3]);
+            let result = read(&profile, &sheet, &mut scratch, &mut payload);
+            assert_eq!(result, refuse(number, place));
+            assert_eq!((scratch, payload), ([0; 12], [170; 3]));
+        }
+    }
+
+    #[test]
+    fn refusals_1_and_2_leave_every_buffer() {
+        for profile in cases::profiles_out_of_range() {
+            let (mut sheet, mut scratch, mut payload) = ([170; 4], [170; 4], [170; 1]);
+            assert_eq!(write(&profile, &[1, 2], &mut sheet), refuse(PROFILE_RANGE, 0));
+            assert_eq!(
+                read(&profile, &sheet, &mut scratch, &mut payload),
+                refuse(PROFILE_RANGE, 0)
+            );
+            assert_eq!((sheet, scratch, payload), ([170; 4], [170; 4], [170; 1]));
+        }
+        let profile = Profile {
+            n: 4,
+            r: 3,
+            b: 0,
+            limit: 2,
+            depth: 2,
+        };
+        for (a, b, c) in [
+            (7, 8, 2),
+            (9, 8, 2),
+            (8, 7, 2),
+            (8, 9, 2),
+            (8, 8, 1),
+            (8, 8, 3),
+            (4, 4, 1),
+        ] {
+            let (mut sheet, mut scratch, mut payload) = (vec![170; a], vec![170; b], vec![170; c]);
+            let result = read(&profile, &sheet, &mut scratch, &mut payload);
+            assert_eq!(result, refuse(BUFFER_LENGTH, 0));
+            if (a, c) != (8, 2) {
+                assert_eq!(write(&profile, &payload, &mut sheet), refuse(BUFFER_LENGTH, 0));
+            }
+            assert!([sheet, scratch, payload].concat().iter().all(|&x| x == 170));
+        }
+    }
+}
