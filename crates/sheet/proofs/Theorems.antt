@@ -4,26 +4,28 @@ use mathlib.Core.Path.{_≡_, refl, sym, ap, _∙_}
 use mathlib.Core.Logic.{_⊎_, inl, inr, ⊎-elim}
 use mathlib.Core.Bool.{Bool, true, false}
 use mathlib.Core.List.{List}
-use Prim.Native.Nat.{ℕ, _-_, _<_}
+use Prim.Native.Nat.{ℕ, _*_, _<_}
 use native.Mathlib.Omega.{arith}
 use lib.ListN.{length, drop, replicate}
 use borrow.Author.Tests.{eq-eqb}
 use Rattle.lists.specs.Choice.{pick}
+use Rattle.lists.proofs.Test.{true-or-false}
 use Rattle.code.specs.Poly.{Bytes}
 use Rattle.block.specs.Profile.{InRange, messageLength}
-use Rattle.block.specs.Block.{refusing, verdictNumber}
+use Rattle.block.specs.Block.{refusing, verdictNumber, writtenNumber}
 use Rattle.block.specs.Promises.{Cells, Word, WrittenBlock}
 use Rattle.block.specs.declared.Profile.{Profile}
 use Rattle.block.specs.declared.Verdict.{Verdict}
-use Rattle.block.proofs.Ranges.{in-range}
+use Rattle.block.proofs.Ranges.{in-range, out-of-range}
 use Rattle.block.proofs.Encoding.{writes-codeword}
-use Rattle.sheet.specs.declared.Refusal.the-variants.{Block}
+use Rattle.sheet.specs.declared.Refusal.the-variants.{BadProfile, WrongLength, Block}
 use Rattle.sheet.specs.declared.Reading.the-variants.{Refused, Accepted}
-use Rattle.sheet.specs.Sheet.{messageOf, joined, writtenBlock, writtenSheet, readBlock, blockVerdict, codeword, isCorrected, isAccepted, differ, changedAt, sheetAnswer, sheetPayload, readFits, readAnswer, readScratch, readPayload}
+use Rattle.sheet.specs.Sheet.{messageOf, joined, writtenBlock, writtenSheet, readBlock, blockVerdict, codeword, isCorrected, isAccepted, differ, changedAt, sheetAnswer, sheetPayload, readFits, readAnswer, readScratch, readPayload, writeFits}
 use Rattle.sheet.specs.Buffers.{Payload, Sheet, Lent, differing}
-use Rattle.sheet.specs.Theorems.{WrittenBlocks, HasWord, BlockRefused, LowestRefused, AllWords, Refuses, Accepts, ReadResults}
+use Rattle.sheet.specs.Theorems.{WrittenBlocks, HasWord, BlockRefused, LowestRefused, AllWords, Refuses, Accepts, ReadResults, ReadRefused, WriteRefused, EarlyRefusals}
 use Rattle.sheet.proofs.Apart.{block-length, block-bytes, message-length, message-bytes, apart, interleave-length, interleave-bytes, same-joined}
 use Rattle.sheet.proofs.Verdicts.{number-3, number-4, one-corrected, none-refused, two-refused, corrected-one, refused-reason}
+use Rattle.sheet.proofs.Entry.{read-lengths, read-bad, read-wrong, write-lengths, write-bad, write-wrong}
 use Rattle.sheet.proofs.Reader.{first-false, same-sum, all-accepted, first-refused}
 
 -- ---- the written sheet
@@ -165,3 +167,34 @@ read-results p sheet scratch out v h = record {
   kept = λ d w q. payload-is p sheet scratch out v h ∙ rw (sym (answer-is p sheet scratch out v h) ∙ q);
   cleared = scratch-is p sheet scratch out v h;
 }
+
+-- ---- refusals 1 and 2
+
+module _ (p : Profile) where
+  bad-read : (sheet scratch out : List ℕ) → (InRange p → ⊥) → ReadRefused p sheet scratch out 1
+  bad-read sheet scratch out n =
+      let q = read-bad p sheet scratch out (sym (out-of-range p n)) in
+      record { refusal = BadProfile; answer = sym (q .0); numbered = refl; placed = refl; scratch-kept = sym (q .1 .0); out-kept = sym (q .1 .1) }
+
+  wrong-read : (sheet scratch out : List ℕ) → InRange p
+      → ((length sheet ≡ p .depth * p .n) × (length scratch ≡ p .depth * p .n) × (length out ≡ p .depth * messageLength p) → ⊥)
+      → ReadRefused p sheet scratch out 2
+  wrong-read sheet scratch out v n =
+      ⊎-elim (λ t. absurd (n (read-lengths p (length sheet) (length scratch) (length out) t)))
+      (λ t. let q = read-wrong p sheet scratch out (in-range p .1 v) t in
+      record { refusal = WrongLength; answer = sym (q .0); numbered = refl; placed = refl; scratch-kept = sym (q .1 .0); out-kept = sym (q .1 .1) })
+      (true-or-false (readFits p (length sheet) (length scratch) (length out)))
+
+  bad-write : (m cells : List ℕ) → (InRange p → ⊥) → WriteRefused p m cells 1
+  bad-write m cells n =
+      let q = write-bad p m cells (sym (out-of-range p n)) in
+      record { numbered = ap writtenNumber (sym (q .0)); kept = sym (q .1) }
+
+  wrong-write : (m cells : List ℕ) → InRange p → ((length m ≡ p .depth * messageLength p) × (length cells ≡ p .depth * p .n) → ⊥) → WriteRefused p m cells 2
+  wrong-write m cells v n =
+      ⊎-elim (λ t. absurd (n (write-lengths p (length m) (length cells) t)))
+      (λ t. let q = write-wrong p m cells (in-range p .1 v) t in record { numbered = ap writtenNumber (sym (q .0)); kept = sym (q .1) })
+      (true-or-false (writeFits p (length m) (length cells)))
+
+pub early-refusals : (p : Profile) → EarlyRefusals p
+early-refusals p = record { read-1 = bad-read p; read-2 = wrong-read p; write-1 = bad-write p; write-2 = wrong-write p }

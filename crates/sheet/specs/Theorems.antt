@@ -1,4 +1,4 @@
--- What the definitions of Sheet.antt mean, in the words of document 01 and with no word of how a block is searched (S1 to S6). What a
+-- What the definitions of Sheet.antt mean, in the words of document 01 and with no word of how a block is searched (S1 to S6, E3 to E5). What a
 -- run reaches is the block crate's. proofs/Theorems.antt proves each.
 use mathlib.Core.Path.{_≡_}
 use mathlib.Core.Logic.{_↔_, _≢_, _⊎_}
@@ -7,13 +7,14 @@ use mathlib.Core.List.{List}
 use Prim.Native.Nat.{ℕ, _*_, _/_, _%_, _<_}
 use lib.ListN.{length, getD, drop, replicate}
 use Rattle.block.specs.Profile.{InRange, messageLength}
-use Rattle.block.specs.Block.{encode}
+use Rattle.block.specs.Block.{encode, writtenNumber}
 use Rattle.block.specs.Promises.{NoneReached, TwoReached, OneReached}
 use Rattle.block.specs.declared.Profile.{Profile}
 use Rattle.block.specs.declared.Verdict.{Verdict}
+use Rattle.sheet.specs.declared.Refusal.{Refusal}
 use Rattle.sheet.specs.declared.Refusal.the-variants.{Block}
 use Rattle.sheet.specs.declared.Reading.the-variants.{Refused, Accepted}
-use Rattle.sheet.specs.Sheet.{interleave, blockOf, joined, messageOf, writtenSheet, readBlock, differ, readAnswer, readScratch, readPayload, refusalNumber, refusalPlace}
+use Rattle.sheet.specs.Sheet.{interleave, blockOf, joined, messageOf, writtenSheet, writeAnswer, writeLeaves, readBlock, differ, readAnswer, readScratch, readPayload, refusalNumber, refusalPlace}
 pub use Rattle.sheet.specs.Buffers.{Payload, Lent, differing}
 
 -- ---- 1. S1: where cells and bytes stand
@@ -90,3 +91,27 @@ module _ (p : Profile) (sheet scratch out : List ℕ) where
 
 abbrev pub ReadResults : Type 0
 ReadResults = (p : Profile) (sheet scratch out : List ℕ) → InRange p → Lent p sheet scratch out → Results p sheet scratch out
+
+-- ---- 4. E3, E4, S6: refusals 1 and 2 have place 0 and leave every lent buffer as it was; 1 goes before 2, and 2 before the rest
+
+-- the reader is refused with that number
+pub record ReadRefused (p : Profile) (sheet scratch out : List ℕ) (number : ℕ) : Type 0 where
+  pub refusal : Refusal
+  pub answer : readAnswer p sheet scratch out ≡ Refused refusal
+  pub numbered : refusalNumber refusal ≡ number
+  pub placed : refusalPlace refusal ≡ 0
+  pub scratch-kept : readScratch p sheet scratch out ≡ scratch
+  pub out-kept : readPayload p sheet scratch out ≡ out
+
+-- and the writer
+pub record WriteRefused (p : Profile) (m cells : List ℕ) (number : ℕ) : Type 0 where
+  pub numbered : writtenNumber (writeAnswer p m cells) ≡ number
+  pub kept : writeLeaves p m cells ≡ cells
+
+pub record EarlyRefusals (p : Profile) : Type 0 where
+  pub read-1 : (sheet scratch out : List ℕ) → (InRange p → ⊥) → ReadRefused p sheet scratch out 1
+  pub read-2 : (sheet scratch out : List ℕ) → InRange p
+      → ((length sheet ≡ p .depth * p .n) × (length scratch ≡ p .depth * p .n) × (length out ≡ p .depth * messageLength p) → ⊥)
+      → ReadRefused p sheet scratch out 2
+  pub write-1 : (m cells : List ℕ) → (InRange p → ⊥) → WriteRefused p m cells 1
+  pub write-2 : (m cells : List ℕ) → InRange p → ((length m ≡ p .depth * messageLength p) × (length cells ≡ p .depth * p .n) → ⊥) → WriteRefused p m cells 2
