@@ -1,4 +1,4 @@
-//! Links what is there: the proved library that `rt staticlib bench_api` writes, and libfec. Without one of them the package still
+//! Links what is there: the proved library that `rt staticlib capi` writes, and libfec. Without one of them the package still
 //! builds; the program then says what is missing.
 
 use std::path::Path;
@@ -8,12 +8,12 @@ fn main() {
     println!("cargo:rustc-check-cfg=cfg(proved, fec)");
     let root = Path::new(env!("CARGO_MANIFEST_DIR")).join("../..");
     let folder = root.join("target/staticlib");
-    let archive = folder.join("libbench_api.a");
+    let archive = folder.join("libcapi.a");
     println!("cargo:rerun-if-changed={}", archive.display());
     if archive.exists() {
         println!("cargo:rustc-cfg=proved");
         println!("cargo:rustc-link-search=native={}", folder.display());
-        println!("cargo:rustc-link-lib=static=bench_api");
+        println!("cargo:rustc-link-lib=static=capi");
     }
     let header = "/usr/include/fec.h";
     println!("cargo:rerun-if-changed={header}");

@@ -4,7 +4,7 @@ use crate::coder::Coder;
 use crate::Shape;
 
 extern "C" {
-    fn bench_write(
+    fn tishwabe_write_block(
         n: usize,
         r: usize,
         b: usize,
@@ -15,8 +15,17 @@ extern "C" {
         cells: *mut u8,
         size: usize,
     ) -> usize;
-    fn bench_check(n: usize, r: usize, b: usize, limit: usize, depth: usize, read: *const u8, length: usize) -> usize;
-    fn bench_correct(
+    fn tishwabe_check_block(
+        n: usize,
+        r: usize,
+        b: usize,
+        limit: usize,
+        depth: usize,
+        read: *const u8,
+        length: usize,
+        clean: *mut usize,
+    ) -> usize;
+    fn tishwabe_correct_block(
         n: usize,
         r: usize,
         b: usize,
@@ -26,6 +35,8 @@ extern "C" {
         length: usize,
         out: *mut u8,
         size: usize,
+        start: *mut usize,
+        run: *mut usize,
     ) -> usize;
 }
 
@@ -45,7 +56,7 @@ impl Coder for Proved {
     fn write(&mut self, message: &[u8], cells: &mut [u8]) {
         let Shape { n, r, b } = self.0;
         let answer = unsafe {
-            bench_write(
+            tishwabe_write_block(
                 n,
                 r,
                 b,
@@ -62,13 +73,16 @@ impl Coder for Proved {
 
     fn check(&mut self, cells: &[u8]) -> bool {
         let Shape { n, r, b } = self.0;
-        unsafe { bench_check(n, r, b, r / 2, 1, cells.as_ptr(), cells.len()) == 0 }
+        let mut clean = 0;
+        let number = unsafe { tishwabe_check_block(n, r, b, r / 2, 1, cells.as_ptr(), cells.len(), &mut clean) };
+        number == 0 && clean == 1
     }
 
     fn correct(&mut self, read: &[u8], out: &mut [u8]) -> Option<bool> {
         let Shape { n, r, b } = self.0;
+        let (mut start, mut run) = (0, 0);
         let answer = unsafe {
-            bench_correct(
+            tishwabe_correct_block(
                 n,
                 r,
                 b,
@@ -78,6 +92,8 @@ impl Coder for Proved {
                 read.len(),
                 out.as_mut_ptr(),
                 out.len(),
+                &mut start,
+                &mut run,
             )
         };
         Some(answer == 0)

@@ -1,0 +1,46 @@
+-- The corrector's answer and cells, at the profile of the five numbers, with the three numbers of the answer.
+use mathlib.Core.Path.{_≡_, ap, _∙_}
+use Rattle.block.specs.declared.Profile.{Profile}
+use Rattle.block.specs.Block.{verdictNumber, verdictStart, verdictLength, correctAnswer, correctLeaves}
+use Rattle.capi.proofs.Laws.{number-of}
+use borrow.Author.Needs.{needs}
+use Rattle.capi.proofs.tishwabe_correct_block.Statement.{statement}
+use Rattle.capi.proofs.tishwabe_correct_block.Tie as tie
+
+profile-of-requires : tie.Need-profile-of-requires
+profile-of-requires c κs = search needs
+
+correct-requires : tie.Need-correct-requires
+correct-requires c κs = search needs
+
+verdict-start-requires : tie.Need-verdict-start-requires
+verdict-start-requires c κs = search needs
+
+verdict-length-requires : tie.Need-verdict-length-requires
+verdict-length-requires c κs = search needs
+
+verdict-number-requires : tie.Need-verdict-number-requires
+verdict-number-requires c κs = search needs
+
+same-length : tie.Need-same-length
+same-length c = search needs
+
+returns : tie.Need-returns
+returns c =
+    let g = c .before .before .before .before .before .before .before .before .before .before .args in
+    let p = c .before .before .before .before .before .before .before .profile-of .ensures in
+    let w = c .before .before .before .before .before .correct .ensures in
+    let a = w .0 ∙ ap (λ (q : Profile). correctAnswer q (g .read .now) (g .out .now)) p in
+    (number-of verdictNumber _ _ _ (c .verdict-number .ensures) a, (number-of verdictStart _ _ _ (c .before .before .verdict-start .ensures) a, (number-of verdictLength _ _ _ (c .before .verdict-length .ensures) a, w .1 ∙ ap (λ (q : Profile). correctLeaves q (g .read .now) (g .out .now)) p)))
+
+pub tishwabe-correct-block-spec : {M : Type 1} → statement M
+tishwabe-correct-block-spec =
+    tie.close
+    (tie.spec
+    profile-of-requires
+    correct-requires
+    verdict-start-requires
+    verdict-length-requires
+    verdict-number-requires
+    same-length
+    returns)

@@ -1,0 +1,51 @@
+-- The reader's answer and buffers, at the profile of the five numbers, with the three numbers of the answer.
+use mathlib.Core.Path.{_≡_, ap, _∙_}
+use Rattle.block.specs.declared.Profile.{Profile}
+use Rattle.sheet.specs.Sheet.{readAnswer, readScratch, readPayload}
+use Rattle.capi.specs.Numbers.{readingNumber, readingPlace, readingChanged}
+use Rattle.capi.proofs.Laws.{number-of}
+use borrow.Author.Needs.{needs}
+use Rattle.capi.proofs.tishwabe_read_sheet.Statement.{statement}
+use Rattle.capi.proofs.tishwabe_read_sheet.Tie as tie
+
+profile-of-requires : tie.Need-profile-of-requires
+profile-of-requires c κs = search needs
+
+read-requires : tie.Need-read-requires
+read-requires c κs = search needs
+
+reading-changed-requires : tie.Need-reading-changed-requires
+reading-changed-requires c κs = search needs
+
+reading-place-requires : tie.Need-reading-place-requires
+reading-place-requires c κs = search needs
+
+reading-number-requires : tie.Need-reading-number-requires
+reading-number-requires c κs = search needs
+
+same-length : tie.Need-same-length
+same-length c = search needs
+
+same-length-2 : tie.Need-same-length-2
+same-length-2 c = search needs
+
+returns : tie.Need-returns
+returns c =
+    let g = c .before .before .before .before .before .before .before .before .before .before .before .before .before .before .args in
+    let p = c .before .before .before .before .before .before .before .before .before .before .profile-of .ensures in
+    let w = c .before .before .before .before .before .before .before .read .ensures in
+    let a = w .0 ∙ ap (λ (q : Profile). readAnswer q (g .sheet .now) (g .scratch .now) (g .payload .now)) p in
+    (number-of readingNumber _ _ _ (c .reading-number .ensures) a, (number-of readingChanged _ _ _ (c .before .before .reading-changed .ensures) a, (number-of readingPlace _ _ _ (c .before .reading-place .ensures) a, (w .1 .0 ∙ ap (λ (q : Profile). readScratch q (g .sheet .now) (g .scratch .now) (g .payload .now)) p, w .1 .1 ∙ ap (λ (q : Profile). readPayload q (g .sheet .now) (g .scratch .now) (g .payload .now)) p))))
+
+pub tishwabe-read-sheet-spec : {M : Type 1} → statement M
+tishwabe-read-sheet-spec =
+    tie.close
+    (tie.spec
+    profile-of-requires
+    read-requires
+    reading-changed-requires
+    reading-place-requires
+    reading-number-requires
+    same-length
+    same-length-2
+    returns)

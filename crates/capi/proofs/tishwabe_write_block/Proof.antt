@@ -1,0 +1,32 @@
+-- The writer's answer and cells, at the profile of the five numbers.
+use mathlib.Core.Path.{_≡_, ap, _∙_}
+use Rattle.block.specs.declared.Profile.{Profile}
+use Rattle.block.specs.Block.{writtenNumber, writeAnswer, writeLeaves}
+use Rattle.capi.proofs.Laws.{number-of}
+use borrow.Author.Needs.{needs}
+use Rattle.capi.proofs.tishwabe_write_block.Statement.{statement}
+use Rattle.capi.proofs.tishwabe_write_block.Tie as tie
+
+profile-of-requires : tie.Need-profile-of-requires
+profile-of-requires c κs = search needs
+
+write-requires : tie.Need-write-requires
+write-requires c κs = search needs
+
+written-number-requires : tie.Need-written-number-requires
+written-number-requires c κs = search needs
+
+same-length : tie.Need-same-length
+same-length c = search needs
+
+returns : tie.Need-returns
+returns c =
+    let g = c .before .before .before .before .before .before .before .before .args in
+    let p = c .before .before .before .before .before .profile-of .ensures in
+    let w = c .before .before .before .write .ensures in
+    (number-of writtenNumber _ _ _ (c .written-number .ensures) (w .0 ∙ ap (λ (q : Profile). writeAnswer q (g .message .now) (g .cells .now)) p), w .1 ∙ ap (λ (q : Profile). writeLeaves q (g .message .now) (g .cells .now)) p)
+
+pub tishwabe-write-block-spec : {M : Type 1} → statement M
+tishwabe-write-block-spec =
+    tie.close
+    (tie.spec profile-of-requires write-requires written-number-requires same-length returns)

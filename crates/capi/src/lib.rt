@@ -1,0 +1,336 @@
+// The library for C and Rust: each exported function takes numbers and byte slices (pointer and length), answers document 01's number, 0 where
+// accepted, and hands every other number out through a reference. Each calls one entry of the crates below, and its contract is that entry's
+// answer, as the numbers of specs/Numbers.antt.
+ghost use mathlib.Core.Path.{_≡_};
+ghost use Rattle.block.specs.Profile.{messageLength, half};
+ghost use Rattle.block.specs.Block.{verdictNumber, verdictStart, verdictLength, writtenNumber, checkedNumber, writeAnswer, writeLeaves, checkAnswer, correctAnswer, correctLeaves};
+ghost use Rattle.sheet.specs.Sheet as sheets;
+ghost use Rattle.plot.specs.Layout.{Plot};
+ghost use Rattle.plot.specs.Grammar.{reading};
+ghost use Rattle.plot.specs.Answers.{checked, located, added, payloadWith};
+ghost use Rattle.listing_text.specs.Text.{listingText, refusalText};
+ghost use Rattle.listing_text.specs.Buffer.{textIn, textLength};
+ghost use Rattle.capi.specs.Numbers.{profileOf, profileNumber, cleanFlag, readingNumber, readingPlace, readingChanged, payloadNumber, payloadPlace, locatedNumber, locatedPlace, locatedLength, addedNumber, addedPlace};
+use block::Checked;
+use block::Profile;
+use plot::Added;
+use plot::Located;
+use sheet::Reading;
+
+fn profile_of(n: usize, r: usize, b: usize, limit: usize, depth: usize) -> Profile
+    ensures { λ z. ⌜ z ≡ profileOf n r b limit depth ⌝ }
+{
+    Profile {
+        n,
+        r,
+        b,
+        limit,
+        depth,
+    }
+}
+
+// ---- answers as numbers
+
+fn clean_flag(c: Checked) -> usize
+    ensures { λ z. ⌜ z ≡ cleanFlag c ⌝ }
+{
+    match c {
+        Checked::Clean => 1,
+        Checked::NotClean => 0,
+        Checked::BadProfile => 0,
+        Checked::WrongLength => 0,
+    }
+}
+
+fn reading_number(a: Reading) -> usize
+    ensures { λ z. ⌜ z ≡ readingNumber a ⌝ }
+{
+    match a {
+        Reading::Accepted { changed: _ } => 0,
+        Reading::Refused(r) => r.number(),
+    }
+}
+
+fn reading_place(a: Reading) -> usize
+    ensures { λ z. ⌜ z ≡ readingPlace a ⌝ }
+{
+    match a {
+        Reading::Accepted { changed: _ } => 0,
+        Reading::Refused(r) => r.place(),
+    }
+}
+
+fn reading_changed(a: Reading) -> usize
+    ensures { λ z. ⌜ z ≡ readingChanged a ⌝ }
+{
+    match a {
+        Reading::Accepted { changed } => changed,
+        Reading::Refused(_) => 0,
+    }
+}
+
+fn payload_number(a: plot::Checked) -> usize
+    ensures { λ z. ⌜ z ≡ payloadNumber a ⌝ }
+{
+    match a {
+        plot::Checked::Accepted(_) => 0,
+        plot::Checked::Refused(r) => plot::number(r) as usize,
+    }
+}
+
+fn payload_place(a: plot::Checked) -> usize
+    ensures { λ z. ⌜ z ≡ payloadPlace a ⌝ }
+{
+    match a {
+        plot::Checked::Accepted(c) => c.at,
+        plot::Checked::Refused(r) => plot::place(r),
+    }
+}
+
+fn located_number(a: Located) -> usize
+    ensures { λ z. ⌜ z ≡ locatedNumber a ⌝ }
+{
+    match a {
+        Located::At { start: _, len: _ } => 0,
+        Located::Refused(r) => plot::number(r) as usize,
+    }
+}
+
+fn located_place(a: Located) -> usize
+    ensures { λ z. ⌜ z ≡ locatedPlace a ⌝ }
+{
+    match a {
+        Located::At { start, len: _ } => start,
+        Located::Refused(r) => plot::place(r),
+    }
+}
+
+fn located_length(a: Located) -> usize
+    ensures { λ z. ⌜ z ≡ locatedLength a ⌝ }
+{
+    match a {
+        Located::At { start: _, len } => len,
+        Located::Refused(_) => 0,
+    }
+}
+
+fn added_number(a: Added) -> usize
+    ensures { λ z. ⌜ z ≡ addedNumber a ⌝ }
+{
+    match a {
+        Added::At(_) => 0,
+        Added::Refused(r) => plot::number(r) as usize,
+    }
+}
+
+fn added_place(a: Added) -> usize
+    ensures { λ z. ⌜ z ≡ addedPlace a ⌝ }
+{
+    match a {
+        Added::At(start) => start,
+        Added::Refused(r) => plot::place(r),
+    }
+}
+
+fn profile_number(p: Profile) -> usize
+    ensures { λ z. ⌜ z ≡ profileNumber p ⌝ }
+{
+    if p.in_range() {
+        return 0;
+    }
+    1
+}
+
+// ---- blocks
+
+/// Whether the five numbers are a profile, with its k and h.
+#[no_mangle]
+pub extern "C" fn tishwabe_profile(
+    n: usize,
+    r: usize,
+    b: usize,
+    limit: usize,
+    depth: usize,
+    k: &mut usize,
+    h: &mut usize,
+) -> usize
+    ensures { λ z. ⌜ z ≡ profileNumber (profileOf n r b limit depth) ⌝ }
+    ensures { λ _. ⌜ now (k .exit) ≡ messageLength (profileOf n r b limit depth) ⌝ }
+    ensures { λ _. ⌜ now (h .exit) ≡ half (profileOf n r b limit depth) ⌝ }
+{
+    let p = profile_of(n, r, b, limit, depth);
+    *k = p.message_length();
+    *h = p.half();
+    profile_number(p)
+}
+
+/// Writes the block of a message.
+#[no_mangle]
+pub extern "C" fn tishwabe_write_block(
+    n: usize,
+    r: usize,
+    b: usize,
+    limit: usize,
+    depth: usize,
+    message: &[u8],
+    cells: &mut [u8],
+) -> usize
+    ensures { λ z. ⌜ z ≡ writtenNumber (writeAnswer (profileOf n r b limit depth) (now (message .entry)) (now (cells .entry))) ⌝ }
+    ensures { λ _. ⌜ now (cells .exit) ≡ writeLeaves (profileOf n r b limit depth) (now (message .entry)) (now (cells .entry)) ⌝ }
+{
+    block::written_number(block::write(profile_of(n, r, b, limit, depth), message, cells))
+}
+
+/// Whether a block is a codeword: `clean` is 1 or 0.
+#[no_mangle]
+pub extern "C" fn tishwabe_check_block(
+    n: usize,
+    r: usize,
+    b: usize,
+    limit: usize,
+    depth: usize,
+    read: &[u8],
+    clean: &mut usize,
+) -> usize
+    ensures { λ z. ⌜ z ≡ checkedNumber (checkAnswer (profileOf n r b limit depth) (now (read .entry))) ⌝ }
+    ensures { λ _. ⌜ now (clean .exit) ≡ cleanFlag (checkAnswer (profileOf n r b limit depth) (now (read .entry))) ⌝ }
+{
+    let answer = block::check(profile_of(n, r, b, limit, depth), read);
+    *clean = clean_flag(answer);
+    block::checked_number(answer)
+}
+
+/// Corrects a block: the start and the length of the run.
+#[no_mangle]
+pub extern "C" fn tishwabe_correct_block(
+    n: usize,
+    r: usize,
+    b: usize,
+    limit: usize,
+    depth: usize,
+    read: &[u8],
+    out: &mut [u8],
+    start: &mut usize,
+    length: &mut usize,
+) -> usize
+    ensures { λ z. ⌜ z ≡ verdictNumber (correctAnswer (profileOf n r b limit depth) (now (read .entry)) (now (out .entry))) ⌝ }
+    ensures { λ _. ⌜ now (start .exit) ≡ verdictStart (correctAnswer (profileOf n r b limit depth) (now (read .entry)) (now (out .entry))) ⌝ }
+    ensures { λ _. ⌜ now (length .exit) ≡ verdictLength (correctAnswer (profileOf n r b limit depth) (now (read .entry)) (now (out .entry))) ⌝ }
+    ensures { λ _. ⌜ now (out .exit) ≡ correctLeaves (profileOf n r b limit depth) (now (read .entry)) (now (out .entry)) ⌝ }
+{
+    let answer = block::correct(profile_of(n, r, b, limit, depth), read, out);
+    *start = block::verdict_start(answer);
+    *length = block::verdict_length(answer);
+    block::verdict_number(answer)
+}
+
+// ---- sheets
+
+/// Writes the sheet of a payload.
+#[no_mangle]
+pub extern "C" fn tishwabe_write_sheet(
+    n: usize,
+    r: usize,
+    b: usize,
+    limit: usize,
+    depth: usize,
+    payload: &[u8],
+    sheet: &mut [u8],
+) -> usize
+    ensures { λ z. ⌜ z ≡ writtenNumber (sheets.writeAnswer (profileOf n r b limit depth) (now (payload .entry)) (now (sheet .entry))) ⌝ }
+    ensures { λ _. ⌜ now (sheet .exit) ≡ sheets.writeLeaves (profileOf n r b limit depth) (now (payload .entry)) (now (sheet .entry)) ⌝ }
+{
+    block::written_number(sheet::write(profile_of(n, r, b, limit, depth), payload, sheet))
+}
+
+/// Reads a sheet: the number of blocks changed, or the place of the refusal.
+#[no_mangle]
+pub extern "C" fn tishwabe_read_sheet(
+    n: usize,
+    r: usize,
+    b: usize,
+    limit: usize,
+    depth: usize,
+    sheet: &[u8],
+    scratch: &mut [u8],
+    payload: &mut [u8],
+    changed: &mut usize,
+    place: &mut usize,
+) -> usize
+    ensures { λ z. ⌜ z ≡ readingNumber (sheets.readAnswer (profileOf n r b limit depth) (now (sheet .entry)) (now (scratch .entry)) (now (payload .entry))) ⌝ }
+    ensures { λ _. ⌜ now (changed .exit) ≡ readingChanged (sheets.readAnswer (profileOf n r b limit depth) (now (sheet .entry)) (now (scratch .entry)) (now (payload .entry))) ⌝ }
+    ensures { λ _. ⌜ now (place .exit) ≡ readingPlace (sheets.readAnswer (profileOf n r b limit depth) (now (sheet .entry)) (now (scratch .entry)) (now (payload .entry))) ⌝ }
+    ensures { λ _. ⌜ now (scratch .exit) ≡ sheets.readScratch (profileOf n r b limit depth) (now (sheet .entry)) (now (scratch .entry)) (now (payload .entry)) ⌝ }
+    ensures { λ _. ⌜ now (payload .exit) ≡ sheets.readPayload (profileOf n r b limit depth) (now (sheet .entry)) (now (scratch .entry)) (now (payload .entry)) ⌝ }
+{
+    let answer = sheet::read(profile_of(n, r, b, limit, depth), sheet, scratch, payload);
+    *changed = reading_changed(answer);
+    *place = reading_place(answer);
+    reading_number(answer)
+}
+
+// ---- plots
+
+/// Checks a payload: the byte after the last record, or the place of the refusal.
+#[no_mangle]
+pub extern "C" fn tishwabe_check_payload(payload: &[u8], place: &mut usize) -> usize
+    ensures { λ z. ⌜ z ≡ payloadNumber (checked (now (payload .entry))) ⌝ }
+    ensures { λ _. ⌜ now (place .exit) ≡ payloadPlace (checked (now (payload .entry))) ⌝ }
+{
+    let answer = plot::check(payload);
+    *place = payload_place(answer);
+    payload_number(answer)
+}
+
+/// Asks for a plot: the record's first byte, or the place of the refusal, and the record's length.
+#[no_mangle]
+pub extern "C" fn tishwabe_ask(
+    payload: &[u8],
+    plot: u16,
+    place: &mut usize,
+    length: &mut usize,
+) -> usize
+    ensures { λ z. ⌜ z ≡ locatedNumber (located plot (now (payload .entry))) ⌝ }
+    ensures { λ _. ⌜ now (place .exit) ≡ locatedPlace (located plot (now (payload .entry))) ⌝ }
+    ensures { λ _. ⌜ now (length .exit) ≡ locatedLength (located plot (now (payload .entry))) ⌝ }
+{
+    let answer = plot::locate(payload, plot);
+    *place = located_place(answer);
+    *length = located_length(answer);
+    located_number(answer)
+}
+
+/// Adds a plot: the record's first byte, or the place of the refusal.
+#[no_mangle]
+pub extern "C" fn tishwabe_add(
+    payload: &mut [u8],
+    plot: u16,
+    lines: &[u8],
+    place: &mut usize,
+) -> usize
+    ensures { λ z. ⌜ z ≡ addedNumber (added (record { number = plot; lines = now (lines .entry) }) (now (payload .entry))) ⌝ }
+    ensures { λ _. ⌜ now (place .exit) ≡ addedPlace (added (record { number = plot; lines = now (lines .entry) }) (now (payload .entry))) ⌝ }
+    ensures { λ _. ⌜ now (payload .exit) ≡ payloadWith (record { number = plot; lines = now (lines .entry) }) (now (payload .entry)) ⌝ }
+{
+    let answer = plot::add(payload, plot, lines);
+    *place = added_place(answer);
+    added_number(answer)
+}
+
+/// The lister's text for a payload, as far as `text` goes: the number of bytes written.
+#[no_mangle]
+pub extern "C" fn tishwabe_list(payload: &[u8], changed: usize, text: &mut [u8]) -> usize
+    ensures { λ z. ⌜ z ≡ textLength (listingText changed (reading (now (payload .entry)))) (now (text .entry)) ⌝ }
+    ensures { λ _. ⌜ now (text .exit) ≡ textIn (listingText changed (reading (now (payload .entry)))) (now (text .entry)) ⌝ }
+{
+    listing_text::write_listing(payload, changed, text)
+}
+
+/// The lister's text for a refusal, as far as `text` goes: the number of bytes written.
+#[no_mangle]
+pub extern "C" fn tishwabe_list_refusal(number: u8, place: usize, text: &mut [u8]) -> usize
+    ensures { λ z. ⌜ z ≡ textLength (refusalText number place) (now (text .entry)) ⌝ }
+    ensures { λ _. ⌜ now (text .exit) ≡ textIn (refusalText number place) (now (text .entry)) ⌝ }
+{
+    listing_text::write_refusal(number, place, text)
+}

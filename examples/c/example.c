@@ -1,0 +1,55 @@
+/* Writes a sheet with two plots, damages it, reads it back, and asks for a plot. */
+#include <stdio.h>
+#include <string.h>
+
+#include "tishwabe.h"
+
+/* 20 cells in a block, 8 of them check cells, starting power 1, runs of up to 4 cells, 3 blocks in a sheet. */
+#define PROFILE N, R, 1, 4, D
+enum { N = 20, R = 8, K = N - R, D = 3 };
+
+static void print_record(const uint8_t *record, size_t length) {
+    size_t i;
+    for (i = 5; i + 3 <= length; i += 3) {
+        printf("  species %d, class %d cm: %d trees\n", record[i], record[i + 1], record[i + 2]);
+    }
+}
+
+/* Reads the sheet and prints plot 300. */
+static void read_back(const uint8_t *sheet) {
+    uint8_t scratch[D * N], payload[D * K] = {0};
+    size_t changed, place, length;
+    size_t number = tishwabe_read_sheet(PROFILE, sheet, D * N, scratch, D * N, payload, D * K, &changed, &place);
+    if (number != TISHWABE_ACCEPTED) {
+        printf("refused: %zu, place %zu\n", number, place);
+        return;
+    }
+    printf("read, %zu blocks changed\n", changed);
+    number = tishwabe_ask(payload, D * K, 300, &place, &length);
+    printf("plot 300: answer %zu, place %zu, %zu bytes\n", number, place, length);
+    print_record(payload + place, length);
+}
+
+int main(void) {
+    static const uint8_t pines[] = {3, 32, 2};
+    static const uint8_t mixed[] = {1, 10, 255, 3, 31, 4, 3, 32, 1};
+    uint8_t payload[D * K] = {0}, sheet[D * N], text[60 + 6 * D * K];
+    size_t place, number;
+
+    number = tishwabe_add(payload, D * K, 7, pines, sizeof pines, &place);
+    printf("plot 7: answer %zu, place %zu\n", number, place);
+    number = tishwabe_add(payload, D * K, 300, mixed, sizeof mixed, &place);
+    printf("plot 300: answer %zu, place %zu\n", number, place);
+    number = tishwabe_add(payload, D * K, 300, mixed, sizeof mixed, &place);
+    printf("plot 300 again: answer %zu, place %zu\n", number, place);
+    fwrite(text, 1, tishwabe_list(payload, D * K, 0, text, sizeof text), stdout);
+
+    number = tishwabe_write_sheet(PROFILE, payload, D * K, sheet, D * N);
+    printf("written: answer %zu\n", number);
+    read_back(sheet);
+    memset(sheet + 10, 255, D * (R / 2)); /* a scratch of D * h cells */
+    read_back(sheet);
+    memset(sheet + 40, 255, D * N - 40); /* one more, too much */
+    read_back(sheet);
+    return 0;
+}

@@ -1,0 +1,110 @@
+/*
+ * Film sheets for plot tallies: the C interface of the proved library (link target/staticlib/libcapi.a, made by `rt staticlib capi`).
+ * "Document 01" is the specification, "Film sheets for plot tallies, and their mending".
+ *
+ * Units: a cell and a byte of a payload are one uint8_t each; every length counts bytes.
+ *
+ * Profile: n cells in a block (3 to 255), r check cells (2 to 64, below n), b the starting power (0 to 254), limit the longest run that may
+ * be corrected (L, 0 to r - 1), depth the blocks in a sheet (D, 1 to 16). k = n - r, h = r / 2 rounded down.
+ *
+ * Result: 0 where accepted, or document 01's number of the refusal (the enum below); for the two listing functions a number of bytes.
+ * Every number behind a pointer is written on each call, refused or accepted; where it has no meaning it is 0.
+ * A refusal leaves every buffer as it was, but for the scratch of tishwabe_read_sheet.
+ *
+ * What the caller owes: each pointer is valid for the length that follows it (with length 0 nothing is read or written through it), each
+ * pointer to a number is valid, and nothing that is written overlaps anything else passed to the same call. Every value of every number and
+ * every content of every buffer is allowed. No function allocates, keeps a pointer, or has state; they may run on many threads at once.
+ */
+#ifndef TISHWABE_H
+#define TISHWABE_H
+
+#include <stddef.h>
+#include <stdint.h>
+
+#ifdef __cplusplus
+extern "C" {
+#endif
+
+/* Document 01's numbers, with its words for them. */
+enum tishwabe_refusal {
+    TISHWABE_ACCEPTED = 0,
+    TISHWABE_BAD_PROFILE = 1,   /* misprint: a profile number is outside its range */
+    TISHWABE_WRONG_LENGTH = 2,  /* wrong frame: a buffer hasn't exactly its length, or a payload exceeds 4,048 bytes */
+    TISHWABE_UNCORRECTABLE = 3, /* torn: no run of up to L cells reaches a codeword */
+    TISHWABE_AMBIGUOUS = 4,     /* tied: shortest runs reach two different codewords */
+    TISHWABE_BAD_MARK = 5,      /* bad mark: mark wrong, or a byte after the first zero isn't zero */
+    TISHWABE_CUT_SHORT = 6,     /* cut short: header or lines pass the payload's end */
+    TISHWABE_BAD_TALLY = 7,     /* bad tally: more than 40 lines, plot number 0, range or rise of lines, lent lines not 0 to 120 in threes */
+    TISHWABE_PLOT_ORDER = 8,    /* plot order: plot number not above the one before */
+    TISHWABE_NO_SUCH_PLOT = 9,  /* no such plot: payload accepted, plot absent */
+    TISHWABE_FULL = 10          /* full: the record needs more bytes than are left after the last record */
+};
+
+/* Longest payload that the functions on plots accept, in bytes. */
+#define TISHWABE_LONGEST_PAYLOAD 4048
+
+/* Whether the five numbers are a profile: 0 or 1. *k is n - r (0 where r is above n), *h is r / 2 rounded down. */
+size_t tishwabe_profile(size_t n, size_t r, size_t b, size_t limit, size_t depth, size_t *k, size_t *h);
+
+/* ---- blocks: refusals 1 and 2, and 3 and 4 of the corrector; their place is 0 */
+
+/* Writes the block of a message: k bytes in, n cells out. */
+size_t tishwabe_write_block(size_t n, size_t r, size_t b, size_t limit, size_t depth,
+                            const uint8_t *message, size_t message_length, /* k */
+                            uint8_t *cells, size_t cells_length);          /* n */
+
+/* *clean is 1 if the n cells are a codeword, and 0 if not or where refused. A block that is not clean is no refusal. */
+size_t tishwabe_check_block(size_t n, size_t r, size_t b, size_t limit, size_t depth,
+                            const uint8_t *read, size_t read_length, /* n */
+                            size_t *clean);
+
+/* Corrects a block: the codeword of the shortest run goes to out; *start and *length are that run, 0 and 0 for a clean block. */
+size_t tishwabe_correct_block(size_t n, size_t r, size_t b, size_t limit, size_t depth,
+                              const uint8_t *read, size_t read_length, /* n */
+                              uint8_t *out, size_t out_length,         /* n */
+                              size_t *start, size_t *length);
+
+/* ---- sheets */
+
+/* Writes a payload as a sheet. Refusals 1 and 2. */
+size_t tishwabe_write_sheet(size_t n, size_t r, size_t b, size_t limit, size_t depth,
+                            const uint8_t *payload, size_t payload_length, /* D * k */
+                            uint8_t *sheet, size_t sheet_length);          /* D * n */
+
+/* Reads a sheet: every block is corrected before a byte of the payload is written. *changed is the number of blocks changed. Refusals 1 to
+ * 4; *place is then the number of the lowest block that is refused by 3 or 4, and else 0. The scratch is all zero after every result but
+ * refusals 1 and 2, which leave it as it was. */
+size_t tishwabe_read_sheet(size_t n, size_t r, size_t b, size_t limit, size_t depth,
+                           const uint8_t *sheet, size_t sheet_length,   /* D * n */
+                           uint8_t *scratch, size_t scratch_length,     /* D * n */
+                           uint8_t *payload, size_t payload_length,     /* D * k */
+                           size_t *changed, size_t *place);
+
+/* ---- plot records in a payload of 0 to 4,048 bytes */
+
+/* Checks a payload. *place is the byte after the last record, or the refusal's place. Refusals 2 and 5 to 8. */
+size_t tishwabe_check_payload(const uint8_t *payload, size_t payload_length, size_t *place);
+
+/* Asks for a plot, after a check of the whole payload: the record, mark to last line, is the *length bytes from payload + *place on. After
+ * a refusal *place is its place and *length is 0. Refusals 2 and 5 to 9. */
+size_t tishwabe_ask(const uint8_t *payload, size_t payload_length, uint16_t plot, size_t *place, size_t *length);
+
+/* Adds a plot right after the last record. lines holds species, class and count of each line, 0 to 120 bytes. *place is the record's first
+ * byte, or the refusal's place. Refusals 2, 5 to 8 and 10. */
+size_t tishwabe_add(uint8_t *payload, size_t payload_length, uint16_t plot,
+                    const uint8_t *lines, size_t lines_length, size_t *place);
+
+/* ---- the text of the plot lister, written from text[0] on as far as text_length goes, with no byte 0 at its end: the number of bytes written.
+ * Other bytes of text are left. A text takes at most 60 bytes and 6 more for each byte of the payload. */
+
+/* The text for the payload of a sheet with this many blocks changed, or for the payload's refusal. */
+size_t tishwabe_list(const uint8_t *payload, size_t payload_length, size_t changed, uint8_t *text, size_t text_length);
+
+/* The text for a refusal: `refused,number,place`. */
+size_t tishwabe_list_refusal(uint8_t number, size_t place, uint8_t *text, size_t text_length);
+
+#ifdef __cplusplus
+}
+#endif
+
+#endif

@@ -1,0 +1,192 @@
+//! Random profiles, damage, lines and payloads.
+
+use second::generator::generator;
+use second::random::Random;
+use second::{plot, Profile};
+
+/// The largest n and r of a profile to draw: brute force takes long on large ones.
+#[derive(Clone, Copy)]
+pub struct Size {
+    pub n: usize,
+    pub r: usize,
+}
+
+pub const SMALL: Size = Size { n: 12, r: 7 };
+pub const MEDIUM: Size = Size { n: 60, r: 16 };
+pub const LARGE: Size = Size { n: 255, r: 64 };
+
+/// A profile in range. One in eight has the most cells or check cells that the size allows.
+pub fn profile(random: &mut Random, size: Size) -> Profile {
+    let r = match random.between(0, 7) {
+        0 => size.r,
+        _ => random.between(2, size.r),
+    };
+    let n = match random.between(0, 7) {
+        0 => size.n,
+        1 => (r + 1).max(3),
+        _ => random.between((r + 1).max(3), size.n),
+    };
+    let b = match random.between(0, 7) {
+        0 => 0,
+        1 => 254,
+        _ => random.between(0, 254),
+    };
+    let limit = match random.between(0, 3) {
+        0 => r - 1,
+        _ => random.between(0, r - 1),
+    };
+    let depth = random.between(1, 16);
+    Profile { n, r, b, limit, depth }
+}
+
+/// A profile with one number out of its range.
+pub fn profile_out_of_range(random: &mut Random) -> Profile {
+    let mut p = profile(random, MEDIUM);
+    let far = [256, 257, 511, 65_536, usize::MAX - 1, usize::MAX][random.between(0, 5)];
+    match random.between(0, 9) {
+        0 => p.n = random.between(0, p.r),
+        1 => p.n = far,
+        2 => p.r = random.between(0, 1),
+        3 => p.r = random.between(p.n, 300),
+        4 => p.r = far,
+        5 => p.b = [255, far][random.between(0, 1)],
+        6 => p.limit = p.r,
+        7 => p.limit = far,
+        8 => p.depth = 0,
+        _ => p.depth = [17, far][random.between(0, 1)],
+    }
+    p
+}
+
+/// A length that is not the due one.
+pub fn wrong_length(random: &mut Random, due: usize) -> usize {
+    match random.between(0, 3) {
+        0 => due + 1,
+        1 => due - 1,
+        2 if due != 0 => 0,
+        _ => due + random.between(1, 40),
+    }
+}
+
+/// Adds a nonzero byte to each cell of a run with this start and length.
+pub fn scratch(random: &mut Random, cells: &mut [u8], start: usize, length: usize) {
+    for cell in &mut cells[start..start + length] {
+        *cell ^= random.nonzero();
+    }
+}
+
+/// A run of at most `most` cells, some of them left as they were.
+pub fn run(random: &mut Random, cells: &mut [u8], most: usize) {
+    let length = random.between(0, most.min(cells.len()));
+    let start = random.between(0, cells.len() - length);
+    for cell in &mut cells[start..start + length] {
+        *cell = random.byte();
+    }
+}
+
+/// How the cells of a written block are changed.
+pub const DAMAGES: [&str; 6] = ["clean", "one run", "two runs", "spots", "half a codeword", "noise"];
+
+/// The written cells changed in the way named.
+pub fn damaged(random: &mut Random, p: &Profile, written: &[u8], damage: &str) -> Vec<u8> {
+    let mut cells = written.to_vec();
+    match damage {
+        "clean" => {}
+        "one run" => run(random, &mut cells, p.limit + 1),
+        "two runs" => {
+            run(random, &mut cells, p.limit.max(1));
+            run(random, &mut cells, p.limit.max(1));
+        }
+        "spots" => {
+            for _ in 0..random.between(1, p.r) {
+                let cell = random.between(0, p.n - 1);
+                scratch(random, &mut cells, cell, 1);
+            }
+        }
+        "half a codeword" => add_half_codeword(random, p, &mut cells),
+        _ => cells = random.bytes(p.n),
+    }
+    cells
+}
+
+/// The first cells of a codeword of r+1 neighbours: as near to one codeword as to another if they are half of them.
+fn add_half_codeword(random: &mut Random, p: &Profile, cells: &mut [u8]) {
+    let start = random.between(0, p.n - p.r - 1);
+    let count = p.r.div_ceil(2);
+    for (cell, coefficient) in cells[start..].iter_mut().zip(generator(p.b, p.r)).take(count) {
+        *cell ^= coefficient;
+    }
+}
+
+/// Lines that rise and are in range, at most `most` of them.
+pub fn lines(random: &mut Random, most: usize) -> Vec<u8> {
+    let count = random.between(0, most);
+    let mut pairs: Vec<(u8, u8)> = (0..count)
+        .map(|_| (random.between(1, 99) as u8, random.between(1, 200) as u8))
+        .collect();
+    pairs.sort_unstable();
+    pairs.dedup();
+    let count_of = |random: &mut Random| random.nonzero();
+    pairs
+        .into_iter()
+        .flat_map(|(species, class)| [species, class, count_of(random)])
+        .collect()
+}
+
+/// Lines of which one in three has a fault: a byte changed, or a length that is not in threes or too long.
+pub fn any_lines(random: &mut Random) -> Vec<u8> {
+    let mut bytes = lines(random, 6);
+    match random.between(0, 8) {
+        0 if !bytes.is_empty() => {
+            let place = random.between(0, bytes.len() - 1);
+            bytes[place] = random.byte();
+        }
+        1 => bytes.push(random.byte()),
+        2 => {
+            let length = random.between(118, 126);
+            bytes = random.bytes(length);
+        }
+        3 => bytes = lines(random, 40),
+        _ => {}
+    }
+    bytes
+}
+
+/// Records of rising plot numbers, then zeros.
+pub fn good_payload(random: &mut Random) -> Vec<u8> {
+    let mut payload = Vec::new();
+    let mut number = 0;
+    for _ in 0..random.between(0, 5) {
+        number += random.between(1, 400);
+        let most = [3, 3, 3, 40][random.between(0, 3)];
+        payload.extend(plot::record(number as u16, &lines(random, most)));
+    }
+    payload.resize(payload.len() + random.between(0, 12), 0);
+    payload
+}
+
+/// A payload that is good, changed in one byte or its length, or random.
+pub fn payload(random: &mut Random) -> Vec<u8> {
+    let mut payload = good_payload(random);
+    match random.between(0, 9) {
+        0 | 1 | 2 if !payload.is_empty() => {
+            let place = random.between(0, payload.len() - 1);
+            payload[place] = [random.byte(), 0, 0x50, 1][random.between(0, 3)];
+        }
+        3 => payload.truncate(payload.len() - random.between(0, payload.len().min(9))),
+        4 => {
+            let start = random.between(0, payload.len());
+            payload.splice(start..start, [0x50, 0x4C, 7, 0, 0]);
+        }
+        5 => {
+            let length = random.between(0, 20);
+            payload = random.bytes(length);
+        }
+        6 => {
+            let length = random.between(4044, 4052);
+            payload.resize(length, 0);
+        }
+        _ => {}
+    }
+    payload
+}

@@ -1,0 +1,169 @@
+//! Sheets, written and read by the library and by the second decoder, and the lister's texts.
+
+use compare::draw::{self, Size};
+use compare::sheet::{list, read, write};
+use compare::work::{called, run, Tally};
+use second::random::Random;
+use second::{cases, plot, Profile};
+
+const SIZE: Size = Size { n: 30, r: 10 };
+
+/// A written sheet of random bytes, scratched in one run of `least` to `most` cells.
+fn scratched(random: &mut Random, p: &Profile, payload: &[u8], least: usize, most: usize) -> Vec<u8> {
+    let (answer, mut cells) = write(random, p, payload, p.depth * p.n);
+    assert_eq!(answer.0, 0);
+    let length = random.between(least, most);
+    let start = random.between(0, cells.len() - length);
+    draw::scratch(random, &mut cells, start, length);
+    cells
+}
+
+/// Reads with buffers of the due lengths, and says whether the payload came back.
+fn read_back(random: &mut Random, p: &Profile, cells: &[u8], payload: &[u8], tally: &mut Tally) -> bool {
+    let (answer, found) = read(random, p, cells, (p.depth * p.n, p.depth * p.k()));
+    tally.count("sheets");
+    tally.count(called(answer.0));
+    answer.0 == 0 && found == payload
+}
+
+#[test]
+fn within_the_promise() {
+    let tally = run("within the promise", 1_500, |seed, tally| {
+        let mut random = Random::new(seed);
+        let mut p = draw::profile(&mut random, SIZE);
+        p.limit = random.between(p.h(), p.r - 1);
+        let payload = random.bytes(p.depth * p.k());
+        let cells = scratched(&mut random, &p, &payload, 0, p.depth * p.h());
+        assert!(read_back(&mut random, &p, &cells, &payload, tally));
+    });
+    assert_eq!(tally.of("accepted"), tally.of("sheets"));
+}
+
+#[test]
+fn beyond_the_promise() {
+    let tally = run("beyond the promise", 2_000, |seed, tally| {
+        let mut random = Random::new(seed);
+        let p = draw::profile(&mut random, SIZE);
+        let payload = random.bytes(p.depth * p.k());
+        let (least, most) = (p.depth * p.h() + 1, p.depth * p.n);
+        let cells = scratched(&mut random, &p, &payload, least, most.min(least + p.depth * 2));
+        if read_back(&mut random, &p, &cells, &payload, tally) {
+            tally.count("payload back");
+        }
+    });
+    assert!(tally.of("accepted") > 0 && tally.of("torn") > 100);
+}
+
+/// Some blocks of the sheet changed, each in its own way: the lowest that is refused is named.
+#[test]
+fn blocks_damaged_one_by_one() {
+    let tally = run("blocks damaged", 1_500, |seed, tally| {
+        let mut random = Random::new(seed);
+        let p = draw::profile(&mut random, draw::SMALL);
+        let payload = random.bytes(p.depth * p.k());
+        let (_, mut cells) = write(&mut random, &p, &payload, p.depth * p.n);
+        for d in 0..p.depth {
+            let block: Vec<u8> = cells.iter().skip(d).step_by(p.depth).copied().collect();
+            let damage = draw::DAMAGES[[0, 0, 0, 0, 1, 1, 3, 4][random.between(0, 7)]];
+            let changed = draw::damaged(&mut random, &p, &block, damage);
+            for (i, cell) in changed.into_iter().enumerate() {
+                cells[i * p.depth + d] = cell;
+            }
+        }
+        read_back(&mut random, &p, &cells, &payload, tally);
+    });
+    for kind in ["accepted", "torn", "tied"] {
+        assert!(tally.of(kind) > 50, "{kind}");
+    }
+}
+
+#[test]
+fn profiles_and_lengths_are_refused() {
+    let bad = |random: &mut Random, p: &Profile| {
+        let length = random.between(0, 60);
+        let bytes = random.bytes(length);
+        let lengths = (random.between(0, 60), random.between(0, 60));
+        assert_eq!(write(random, p, &bytes, lengths.0).0, (1, 0, 0, 0));
+        assert_eq!(read(random, p, &bytes, lengths).0, (1, 0, 0, 0));
+    };
+    run("refused sheets", 1_000, |seed, tally| {
+        let mut random = Random::new(seed);
+        let p = draw::profile_out_of_range(&mut random);
+        bad(&mut random, &p);
+        tally.count(called(1));
+        let p = draw::profile(&mut random, SIZE);
+        let due = [p.depth * p.n, p.depth * p.n, p.depth * p.k()];
+        let wrong = due.map(|length| draw::wrong_length(&mut random, length));
+        for mask in 1..8 {
+            let length = |i: usize| if mask >> i & 1 == 1 { wrong[i] } else { due[i] };
+            let cells = random.bytes(length(0));
+            assert_eq!(read(&mut random, &p, &cells, (length(1), length(2))).0, (2, 0, 0, 0));
+            if mask & 2 == 0 {
+                let payload = random.bytes(length(2));
+                assert_eq!(write(&mut random, &p, &payload, length(0)).0, (2, 0, 0, 0));
+            }
+            tally.count(called(2));
+        }
+    });
+    let mut random = Random::new(1);
+    for p in cases::profiles_out_of_range() {
+        bad(&mut random, &p);
+    }
+}
+
+/// A sheet's payload of some plots, as far as they find space.
+fn plots(random: &mut Random, length: usize) -> Vec<u8> {
+    let mut payload = vec![0; length];
+    let mut number = 0;
+    for _ in 0..random.between(0, 4) {
+        number += random.between(1, 9000);
+        let lines = draw::lines(random, 8);
+        let _ = plot::add(&mut payload, number as u16, &lines);
+    }
+    payload
+}
+
+/// The lister's input: the five numbers, then a scratched sheet, now and then with a byte changed, missing or added.
+fn lister_input(random: &mut Random) -> Vec<u8> {
+    let p = draw::profile(random, SIZE);
+    let payload = match random.between(0, 5) {
+        0 => random.bytes(p.depth * p.k()),
+        _ => plots(random, p.depth * p.k()),
+    };
+    let cells = scratched(random, &p, &payload, 0, p.depth * p.h());
+    let mut input = [&[p.n, p.r, p.b, p.limit, p.depth].map(|x| x as u8)[..], &cells].concat();
+    match random.between(0, 7) {
+        0 => input.truncate(random.between(0, input.len())),
+        1 => input.push(0),
+        2 => {
+            let place = random.between(0, 4);
+            input[place] = random.byte();
+        }
+        _ => {}
+    }
+    input
+}
+
+#[test]
+fn listings() {
+    for (input, text) in cases::lists() {
+        assert_eq!(list(&input), text);
+    }
+    let tally = run("listings", 1_500, |seed, tally| {
+        let mut random = Random::new(seed);
+        let text = list(&lister_input(&mut random));
+        let kind = match text.strip_prefix("refused,") {
+            Some(rest) => called(
+                rest.split(',')
+                    .next()
+                    .and_then(|number| number.parse().ok())
+                    .unwrap_or(0),
+            ),
+            None => "listed",
+        };
+        tally.count(kind);
+    });
+    for kind in ["listed", "misprint", "wrong frame", "torn", "bad mark"] {
+        assert!(tally.of(kind) > 10, "{kind}");
+    }
+}

@@ -1,0 +1,213 @@
+//! The exported functions of the static library, and one safe function for each.
+//! Nothing else in this crate is `unsafe`. A slice goes as its pointer and its length, a number comes back through a reference; the
+//! functions of the library accept every argument of these types, and keep no pointer after they return.
+
+/// n, r, b, L and D of document 01, in any range.
+pub type Numbers = [usize; 5];
+
+mod library {
+    extern "C" {
+        pub fn tishwabe_profile(
+            n: usize,
+            r: usize,
+            b: usize,
+            limit: usize,
+            depth: usize,
+            k: &mut usize,
+            h: &mut usize,
+        ) -> usize;
+        pub fn tishwabe_write_block(
+            n: usize,
+            r: usize,
+            b: usize,
+            limit: usize,
+            depth: usize,
+            message: *const u8,
+            message_length: usize,
+            cells: *mut u8,
+            cells_length: usize,
+        ) -> usize;
+        pub fn tishwabe_check_block(
+            n: usize,
+            r: usize,
+            b: usize,
+            limit: usize,
+            depth: usize,
+            read: *const u8,
+            read_length: usize,
+            clean: &mut usize,
+        ) -> usize;
+        pub fn tishwabe_correct_block(
+            n: usize,
+            r: usize,
+            b: usize,
+            limit: usize,
+            depth: usize,
+            read: *const u8,
+            read_length: usize,
+            out: *mut u8,
+            out_length: usize,
+            start: &mut usize,
+            length: &mut usize,
+        ) -> usize;
+        pub fn tishwabe_write_sheet(
+            n: usize,
+            r: usize,
+            b: usize,
+            limit: usize,
+            depth: usize,
+            payload: *const u8,
+            payload_length: usize,
+            sheet: *mut u8,
+            sheet_length: usize,
+        ) -> usize;
+        pub fn tishwabe_read_sheet(
+            n: usize,
+            r: usize,
+            b: usize,
+            limit: usize,
+            depth: usize,
+            sheet: *const u8,
+            sheet_length: usize,
+            scratch: *mut u8,
+            scratch_length: usize,
+            payload: *mut u8,
+            payload_length: usize,
+            changed: &mut usize,
+            place: &mut usize,
+        ) -> usize;
+        pub fn tishwabe_check_payload(payload: *const u8, payload_length: usize, place: &mut usize) -> usize;
+        pub fn tishwabe_ask(
+            payload: *const u8,
+            payload_length: usize,
+            plot: u16,
+            place: &mut usize,
+            length: &mut usize,
+        ) -> usize;
+        pub fn tishwabe_add(
+            payload: *mut u8,
+            payload_length: usize,
+            plot: u16,
+            lines: *const u8,
+            lines_length: usize,
+            place: &mut usize,
+        ) -> usize;
+        pub fn tishwabe_list(
+            payload: *const u8,
+            payload_length: usize,
+            changed: usize,
+            text: *mut u8,
+            text_length: usize,
+        ) -> usize;
+        pub fn tishwabe_list_refusal(number: u8, place: usize, text: *mut u8, text_length: usize) -> usize;
+    }
+}
+
+/// The refusal's number, or 0; then k and h.
+pub fn profile([n, r, b, limit, depth]: Numbers) -> (usize, usize, usize) {
+    let (mut k, mut h) = (0, 0);
+    let number = unsafe { library::tishwabe_profile(n, r, b, limit, depth, &mut k, &mut h) };
+    (number, k, h)
+}
+
+/// The refusal's number, or 0.
+pub fn write_block([n, r, b, limit, depth]: Numbers, message: &[u8], cells: &mut [u8]) -> usize {
+    let (from, to) = (message.as_ptr(), cells.as_mut_ptr());
+    unsafe { library::tishwabe_write_block(n, r, b, limit, depth, from, message.len(), to, cells.len()) }
+}
+
+/// The refusal's number, or 0; then 1 if the block is clean.
+pub fn check_block([n, r, b, limit, depth]: Numbers, read: &[u8]) -> (usize, usize) {
+    let mut clean = 0;
+    let number = unsafe { library::tishwabe_check_block(n, r, b, limit, depth, read.as_ptr(), read.len(), &mut clean) };
+    (number, clean)
+}
+
+/// The refusal's number, or 0; then start and length of the run.
+pub fn correct_block([n, r, b, limit, depth]: Numbers, read: &[u8], out: &mut [u8]) -> (usize, usize, usize) {
+    let (mut start, mut length) = (0, 0);
+    let (from, to) = (read.as_ptr(), out.as_mut_ptr());
+    let number = unsafe {
+        library::tishwabe_correct_block(
+            n,
+            r,
+            b,
+            limit,
+            depth,
+            from,
+            read.len(),
+            to,
+            out.len(),
+            &mut start,
+            &mut length,
+        )
+    };
+    (number, start, length)
+}
+
+/// The refusal's number, or 0.
+pub fn write_sheet([n, r, b, limit, depth]: Numbers, payload: &[u8], sheet: &mut [u8]) -> usize {
+    let (from, to) = (payload.as_ptr(), sheet.as_mut_ptr());
+    unsafe { library::tishwabe_write_sheet(n, r, b, limit, depth, from, payload.len(), to, sheet.len()) }
+}
+
+/// The refusal's number, or 0; then the number of blocks changed, and the refusal's place.
+pub fn read_sheet(
+    [n, r, b, limit, depth]: Numbers,
+    sheet: &[u8],
+    scratch: &mut [u8],
+    payload: &mut [u8],
+) -> (usize, usize, usize) {
+    let (mut changed, mut place) = (0, 0);
+    let number = unsafe {
+        library::tishwabe_read_sheet(
+            n,
+            r,
+            b,
+            limit,
+            depth,
+            sheet.as_ptr(),
+            sheet.len(),
+            scratch.as_mut_ptr(),
+            scratch.len(),
+            payload.as_mut_ptr(),
+            payload.len(),
+            &mut changed,
+            &mut place,
+        )
+    };
+    (number, changed, place)
+}
+
+/// The refusal's number, or 0; then its place, or the byte after the last record.
+pub fn check_payload(payload: &[u8]) -> (usize, usize) {
+    let mut place = 0;
+    let number = unsafe { library::tishwabe_check_payload(payload.as_ptr(), payload.len(), &mut place) };
+    (number, place)
+}
+
+/// The refusal's number, or 0; then its place, or the record's first byte; then the record's length.
+pub fn ask(payload: &[u8], plot: u16) -> (usize, usize, usize) {
+    let (mut place, mut length) = (0, 0);
+    let number = unsafe { library::tishwabe_ask(payload.as_ptr(), payload.len(), plot, &mut place, &mut length) };
+    (number, place, length)
+}
+
+/// The refusal's number, or 0; then its place, or the record's first byte.
+pub fn add(payload: &mut [u8], plot: u16, lines: &[u8]) -> (usize, usize) {
+    let mut place = 0;
+    let (to, from) = (payload.as_mut_ptr(), lines.as_ptr());
+    let number = unsafe { library::tishwabe_add(to, payload.len(), plot, from, lines.len(), &mut place) };
+    (number, place)
+}
+
+/// The number of bytes written.
+pub fn list(payload: &[u8], changed: usize, text: &mut [u8]) -> usize {
+    let (from, to) = (payload.as_ptr(), text.as_mut_ptr());
+    unsafe { library::tishwabe_list(from, payload.len(), changed, to, text.len()) }
+}
+
+/// The number of bytes written.
+pub fn list_refusal(number: u8, place: usize, text: &mut [u8]) -> usize {
+    unsafe { library::tishwabe_list_refusal(number, place, text.as_mut_ptr(), text.len()) }
+}

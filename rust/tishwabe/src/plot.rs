@@ -1,0 +1,88 @@
+//! Plot records in a payload, and the lister's text.
+
+use crate::error::{accepted, Error};
+use crate::ffi;
+use std::ops::Range;
+
+/// Checks a payload of at most 4,048 bytes: the byte after its last record.
+///
+/// ```
+/// use tishwabe::{check_payload, Error};
+/// assert_eq!(check_payload(&[0x50, 0x4C, 7, 0, 1, 3, 32, 2, 0, 0]), Ok(8));
+/// assert_eq!(check_payload(&[0x50, 0x4C, 7, 0, 1, 3, 32]), Err(Error::CutShort { place: 0 }));
+/// ```
+pub fn check_payload(payload: &[u8]) -> Result<usize, Error> {
+    let (number, place) = ffi::check_payload(payload);
+    accepted(number, place, place)
+}
+
+/// Where the record of a plot lies in the payload, mark to last line. The whole payload is checked first.
+///
+/// ```
+/// use tishwabe::{locate, Error};
+/// let payload = [0x50, 0x4C, 7, 0, 0, 0x50, 0x4C, 9, 0, 1, 3, 32, 2, 0];
+/// assert_eq!(locate(&payload, 9), Ok(5..13));
+/// assert_eq!(locate(&payload, 8), Err(Error::NoSuchPlot));
+/// ```
+pub fn locate(payload: &[u8], plot: u16) -> Result<Range<usize>, Error> {
+    let (number, place, length) = ffi::ask(payload, plot);
+    let end = place.saturating_add(length);
+    accepted(number, place, place..end)
+}
+
+/// The record of a plot, mark to last line, as a part of the payload. The whole payload is checked first.
+///
+/// ```
+/// use tishwabe::{ask, Error};
+/// let payload = [0x50, 0x4C, 7, 0, 1, 3, 32, 2, 0];
+/// assert_eq!(ask(&payload, 7), Ok(&payload[..8]));
+/// assert_eq!(ask(&payload, 0), Err(Error::NoSuchPlot));
+/// ```
+pub fn ask(payload: &[u8], plot: u16) -> Result<&[u8], Error> {
+    // A record that was located lies within the payload.
+    locate(payload, plot).map(|record| payload.get(record).unwrap_or_default())
+}
+
+/// Adds a plot right after the last record: its first byte. `lines` holds species, class and count of each line. A refusal leaves
+/// `payload` as it was.
+///
+/// ```
+/// use tishwabe::{add, Error};
+/// let mut payload = [0; 10];
+/// assert_eq!(add(&mut payload, 7, &[3, 32, 2]), Ok(0));
+/// assert_eq!(payload, [0x50, 0x4C, 7, 0, 1, 3, 32, 2, 0, 0]);
+/// assert_eq!(add(&mut payload, 8, &[3, 32, 2]), Err(Error::Full { place: 8 }));
+/// ```
+pub fn add(payload: &mut [u8], plot: u16, lines: &[u8]) -> Result<usize, Error> {
+    let (number, place) = ffi::add(payload, plot, lines);
+    accepted(number, place, place)
+}
+
+/// The lister's text for the payload of a sheet with this many blocks changed, or for the payload's refusal.
+///
+/// ```
+/// let text = tishwabe::list(&[0x50, 0x4C, 7, 0, 1, 3, 32, 2], 7);
+/// assert_eq!(text, "plot,species,class,count\n7,3,32,2\nmended,7\n");
+/// assert_eq!(tishwabe::list(&[1], 0), "refused,5,0\n");
+/// ```
+pub fn list(payload: &[u8], changed: usize) -> String {
+    // A line of three bytes gives at most the 17 of `65535,99,200,255` and its end; header and last line have at most 60.
+    let mut bytes = vec![0; 60 + payload.len().min(4048) * 6];
+    let length = ffi::list(payload, changed, &mut bytes);
+    text(&bytes, length)
+}
+
+/// The lister's text for a refusal.
+///
+/// ```
+/// assert_eq!(tishwabe::list_refusal(tishwabe::Error::Uncorrectable { block: 3 }), "refused,3,3\n");
+/// ```
+pub fn list_refusal(error: Error) -> String {
+    let mut bytes = [0; 40];
+    let length = ffi::list_refusal(error.number(), error.place(), &mut bytes);
+    text(&bytes, length)
+}
+
+fn text(bytes: &[u8], length: usize) -> String {
+    String::from_utf8_lossy(bytes.get(..length).unwrap_or_default()).into_owned()
+}

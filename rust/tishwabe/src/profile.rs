@@ -1,0 +1,165 @@
+//! Profiles, and the entries on blocks and sheets.
+
+use crate::error::{accepted, Error};
+use crate::ffi::{self, Numbers};
+
+/// The five numbers of document 01, all in range: n, r, b, L (`limit`) and D (`depth`).
+#[derive(Clone, Copy, Debug, PartialEq, Eq, Hash)]
+pub struct Profile {
+    numbers: Numbers,
+    k: usize,
+    h: usize,
+}
+
+/// The run of a corrected block: its first cell and its length, 0 and 0 for a clean block.
+#[derive(Clone, Copy, Debug, PartialEq, Eq, Hash)]
+pub struct Run {
+    /// The first cell.
+    pub start: usize,
+    /// The number of cells.
+    pub length: usize,
+}
+
+impl Profile {
+    /// A profile of `n` cells in a block, `r` check cells, starting power `b`, longest run `limit` that may be corrected, and
+    /// `depth` blocks in a sheet.
+    ///
+    /// ```
+    /// use tishwabe::{Error, Profile};
+    /// let profile = Profile::new(255, 16, 0, 8, 16)?;
+    /// assert_eq!((profile.k(), profile.h()), (239, 8));
+    /// assert_eq!((profile.sheet_length(), profile.payload_length()), (4080, 3824));
+    /// assert_eq!(Profile::new(255, 16, 0, 16, 16), Err(Error::BadProfile));
+    /// # Ok::<(), Error>(())
+    /// ```
+    pub fn new(n: usize, r: usize, b: usize, limit: usize, depth: usize) -> Result<Profile, Error> {
+        let numbers = [n, r, b, limit, depth];
+        let (number, k, h) = ffi::profile(numbers);
+        accepted(number, 0, Profile { numbers, k, h })
+    }
+
+    /// Cells in a block.
+    pub fn n(&self) -> usize {
+        self.numbers[0]
+    }
+
+    /// Check cells in a block.
+    pub fn r(&self) -> usize {
+        self.numbers[1]
+    }
+
+    /// Starting power.
+    pub fn b(&self) -> usize {
+        self.numbers[2]
+    }
+
+    /// Longest run that may be corrected: L.
+    pub fn limit(&self) -> usize {
+        self.numbers[3]
+    }
+
+    /// Blocks in a sheet: D.
+    pub fn depth(&self) -> usize {
+        self.numbers[4]
+    }
+
+    /// Message bytes in a block: n − r.
+    pub fn k(&self) -> usize {
+        self.k
+    }
+
+    /// r/2 rounded down. If L is at least h, any scratch of at most D × h cells of a sheet is corrected.
+    pub fn h(&self) -> usize {
+        self.h
+    }
+
+    /// Cells in a sheet: D × n.
+    pub fn sheet_length(&self) -> usize {
+        self.depth() * self.n()
+    }
+
+    /// Bytes in a sheet's payload: D × k.
+    pub fn payload_length(&self) -> usize {
+        self.depth() * self.k()
+    }
+
+    /// Writes the block of a message: k bytes in, n cells out. A refusal leaves `cells` as it was.
+    ///
+    /// ```
+    /// use tishwabe::{Error, Profile};
+    /// let profile = Profile::new(5, 2, 1, 0, 1)?;
+    /// let mut cells = [0; 5];
+    /// profile.write_block(&[1, 0, 0], &mut cells)?;
+    /// assert_eq!(cells, [8, 6, 1, 0, 0]);
+    /// assert_eq!(profile.write_block(&[1, 0], &mut cells), Err(Error::WrongLength));
+    /// # Ok::<(), Error>(())
+    /// ```
+    pub fn write_block(&self, message: &[u8], cells: &mut [u8]) -> Result<(), Error> {
+        accepted(ffi::write_block(self.numbers, message, cells), 0, ())
+    }
+
+    /// Whether the n cells are a codeword.
+    ///
+    /// ```
+    /// use tishwabe::{Error, Profile};
+    /// let profile = Profile::new(4, 3, 0, 0, 1)?;
+    /// assert_eq!(profile.is_codeword(&[8, 14, 7, 1]), Ok(true));
+    /// assert_eq!(profile.is_codeword(&[9, 14, 7, 1]), Ok(false));
+    /// assert_eq!(profile.is_codeword(&[8, 14, 7]), Err(Error::WrongLength));
+    /// # Ok::<(), Error>(())
+    /// ```
+    pub fn is_codeword(&self, cells: &[u8]) -> Result<bool, Error> {
+        let (number, clean) = ffi::check_block(self.numbers, cells);
+        accepted(number, 0, clean == 1)
+    }
+
+    /// Corrects a block: n cells read, and the codeword within the shortest run written to the n bytes of `out`. A refusal leaves
+    /// `out` as it was.
+    ///
+    /// ```
+    /// use tishwabe::{Error, Profile, Run};
+    /// let profile = Profile::new(4, 3, 0, 2, 1)?;
+    /// let mut out = [0; 4];
+    /// assert_eq!(profile.correct_block(&[8, 15, 6, 1], &mut out), Ok(Run { start: 1, length: 2 }));
+    /// assert_eq!(out, [8, 14, 7, 1]);
+    /// assert_eq!(profile.correct_block(&[8, 14, 0, 0], &mut out), Err(Error::Ambiguous { block: 0 }));
+    /// assert_eq!(profile.correct_block(&[9, 14, 7, 0], &mut out), Err(Error::Uncorrectable { block: 0 }));
+    /// # Ok::<(), Error>(())
+    /// ```
+    pub fn correct_block(&self, read: &[u8], out: &mut [u8]) -> Result<Run, Error> {
+        let (number, start, length) = ffi::correct_block(self.numbers, read, out);
+        accepted(number, 0, Run { start, length })
+    }
+
+    /// Writes a payload of D × k bytes as a sheet of D × n cells. A refusal leaves `sheet` as it was.
+    ///
+    /// ```
+    /// use tishwabe::{Error, Profile};
+    /// let profile = Profile::new(4, 3, 0, 0, 2)?;
+    /// let mut sheet = [0; 8];
+    /// profile.write_sheet(&[1, 0], &mut sheet)?;
+    /// assert_eq!(sheet, [8, 0, 14, 0, 7, 0, 1, 0]);
+    /// # Ok::<(), Error>(())
+    /// ```
+    pub fn write_sheet(&self, payload: &[u8], sheet: &mut [u8]) -> Result<(), Error> {
+        accepted(ffi::write_sheet(self.numbers, payload, sheet), 0, ())
+    }
+
+    /// Reads a sheet of D × n cells into a payload of D × k bytes: the number of blocks changed. The scratch of D × n bytes is all
+    /// zero afterwards, unless the lengths are refused. A refusal leaves `payload` as it was.
+    ///
+    /// ```
+    /// use tishwabe::{Error, Profile};
+    /// let profile = Profile::new(4, 3, 0, 2, 2)?;
+    /// let (mut scratch, mut payload) = ([0; 8], [0; 2]);
+    /// assert_eq!(profile.read_sheet(&[9, 0, 14, 0, 7, 0, 1, 0], &mut scratch, &mut payload), Ok(1));
+    /// assert_eq!(payload, [1, 0]);
+    /// let torn = [8, 9, 14, 14, 7, 7, 1, 0];
+    /// assert_eq!(profile.read_sheet(&torn, &mut scratch, &mut payload), Err(Error::Uncorrectable { block: 1 }));
+    /// # Ok::<(), Error>(())
+    /// ```
+    pub fn read_sheet(&self, sheet: &[u8], scratch: &mut [u8], payload: &mut [u8]) -> Result<usize, Error> {
+        let (number, changed, place) = ffi::read_sheet(self.numbers, sheet, scratch, payload);
+        accepted(number, place, changed)
+    }
+}
