@@ -13,7 +13,7 @@ const SHAPES: [(usize, usize); 4] = [(255, 16), (255, 32), (255, 64), (60, 20)];
 
 fn main() {
     if cfg!(not(proved)) {
-        println!("target/staticlib/libbench_api.a is absent: run `rt staticlib bench_api`, then build again");
+        println!("target/staticlib/libcapi.a is absent: run `rt staticlib capi`, then build again");
         return;
     }
     let compared: Vec<_> = SHAPES

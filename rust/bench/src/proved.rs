@@ -1,4 +1,4 @@
-//! The proved library, by the functions that the crate bench_api exports. Each call takes the profile anew and builds the generator.
+//! The proved library, by the functions that the crate capi exports. Each call takes the profile anew and builds the generator.
 
 use crate::coder::Coder;
 use crate::Shape;
