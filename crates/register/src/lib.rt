@@ -40,19 +40,19 @@ pub fn blank() -> Register
     }
 }
 
-/// The sum, cell by cell.
+/// The sum, cell by cell. The highest word comes first: when a message is divided, the next feedback waits for it alone.
 pub fn add(x: Register, y: Register) -> Register
     ensures { λ r. ⌜ cells r ≡ padd (cells x) (cells y) ⌝ }
 {
     Register {
-        w0: x.w0 ^ y.w0,
-        w1: x.w1 ^ y.w1,
-        w2: x.w2 ^ y.w2,
-        w3: x.w3 ^ y.w3,
-        w4: x.w4 ^ y.w4,
-        w5: x.w5 ^ y.w5,
-        w6: x.w6 ^ y.w6,
         w7: x.w7 ^ y.w7,
+        w6: x.w6 ^ y.w6,
+        w5: x.w5 ^ y.w5,
+        w4: x.w4 ^ y.w4,
+        w3: x.w3 ^ y.w3,
+        w2: x.w2 ^ y.w2,
+        w1: x.w1 ^ y.w1,
+        w0: x.w0 ^ y.w0,
     }
 }
 
