@@ -7,7 +7,8 @@ use Prim.Native.Nat.{ℕ, _+_, _-_, _≤_, _<_, zero-le}
 use native.Mathlib.Omega.{arith}
 use lib.ListN.{length, take, drop, replicate}
 use lib.Seq.{take-append-le}
-use borrow.Author.Tests.{lt-ltb, le-ltb}
+use mathlib.Core.Logic.{_≢_}
+use borrow.Author.Tests.{lt-ltb, le-ltb, eq-eqb, ne-eqb}
 use Rattle.lists.proofs.Fill.{fill-all}
 use Rattle.code.specs.Code.{generator, remainder}
 use Rattle.code.specs.Run.{backSteps, shiftedRemainder, addedAt}
@@ -56,10 +57,10 @@ module _ (p : Profile) (y out : List ℕ) (v : InRange p) (h : Cells p y) (wrong
       (e, ap (filled p y out) e)
 
   module _ (l : k .size ≤ p .limit) where
-    pub outcome-twice : k .again ≡ true → (Ambiguous ≡ verdict p y) × (out ≡ filled p y out (verdict p y))
+    pub outcome-twice : k .again ≡ 1 → (Ambiguous ≡ verdict p y) × (out ≡ filled p y out (verdict p y))
     unfolding decided filled
     outcome-twice a =
-        let e : Ambiguous ≡ verdict p y = sym (says ∙ rw (le-ltb (p .limit) (k .size) l, a)) in
+        let e : Ambiguous ≡ verdict p y = sym (says ∙ rw (le-ltb (p .limit) (k .size) l, eq-eqb (k .again) 1 a)) in
         (e, ap (filled p y out) e)
 
     -- the run ends within the block
@@ -77,9 +78,9 @@ module _ (p : Profile) (y out : List ℕ) (v : InRange p) (h : Cells p y) (wrong
         ap (take (k .size)) (eC ∙ s .error ∙ ap (λ (u : List ℕ). padTo 64 (backSteps (k .start) G u)) eR)
         ∙ take-pad (k .size) S (omega (arith, v .limit-below)) (omega (arith, v .r-most))
 
-    pub outcome-once : k .again ≡ false → (C o : List ℕ) → C ≡ cells (k .error) → o ≡ addedAt (k .start) (take (k .size) C) y
+    pub outcome-once : k .again ≢ 1 → (C o : List ℕ) → C ≡ cells (k .error) → o ≡ addedAt (k .start) (take (k .size) C) y
         → (Corrected (k .start) (k .size) ≡ verdict p y) × (o ≡ filled p y out (verdict p y))
     unfolding decided filled
     outcome-once a C o eC eo =
-        let e : Corrected (k .start) (k .size) ≡ verdict p y = sym (says ∙ rw (le-ltb (p .limit) (k .size) l, a)) in
+        let e : Corrected (k .start) (k .size) ≡ verdict p y = sym (says ∙ rw (le-ltb (p .limit) (k .size) l, ne-eqb (k .again) 1 a)) in
         (e, eo ∙ ap (λ (u : List ℕ). addedAt (k .start) u y) (error-cells C eC) ∙ ap (filled p y out) e)

@@ -41,7 +41,7 @@ module _ (k : Found) (n s e : ℕ) (rest : Register) (q : e ≡ extent (cells re
   unfolding improvedBy
   not-fitting h = rw (← q, lt-leb _ _ h)
 
-  pub shorter : s + e ≤ n → e < k .size → record { size = e; start = s; again = false; error = rest } ≡ improvedBy k n s rest
+  pub shorter : s + e ≤ n → e < k .size → record { size = e; start = s; again = 0; error = rest } ≡ improvedBy k n s rest
   unfolding improvedBy
   shorter h l = rw (← q, le-leb _ _ h, lt-ltb _ _ l)
 
@@ -49,13 +49,13 @@ module _ (k : Found) (n s e : ℕ) (rest : Register) (q : e ≡ extent (cells re
   unfolding improvedBy
   longer h l = rw (← q, le-leb _ _ h, le-ltb e (k .size) (omega arith), lt-ltb _ _ l)
 
-  pub equal : s + e ≤ n → k .size ≤ e → e ≤ k .size → record { size = k .size; start = k .start; again = true; error = k .error } ≡ improvedBy k n s rest
+  pub equal : s + e ≤ n → k .size ≤ e → e ≤ k .size → record { size = k .size; start = k .start; again = 1; error = k .error } ≡ improvedBy k n s rest
   unfolding improvedBy
   equal h l m = rw (← q, le-leb _ _ h, le-ltb e (k .size) l, le-ltb (k .size) e m)
 
 -- the state without the error goes as the search's definition says
 tie-cases : (k : Found) (a b : Bool) → ((a ≡ true) × (b ≡ false)) ⊎ ((a ≡ false) × (b ≡ true))
-    → bestOf (pick a k (record { size = k .size; start = k .start; again = true; error = k .error }))
+    → bestOf (pick a k (record { size = k .size; start = k .start; again = 1; error = k .error }))
     ≡ pick b (record { size = k .size; start = k .start; again = true }) (bestOf k)
 tie-cases k true true h = ⊎-elim (λ q. absurd (true-false refl (q .1))) (λ q. absurd (true-false refl (q .0))) h
 tie-cases k true false h = refl
@@ -92,7 +92,7 @@ module _ (p : Profile) (R : List ℕ) where
   abbrev G : List ℕ
   G = generator (p .b) (p .r)
 
-  pub searching-start : (first : Register) (k : Found) → cells first ≡ padTo 64 R → k ≡ record { size = p .limit + 1; start = 0; again = false; error = first }
+  pub searching-start : (first : Register) (k : Found) → cells first ≡ padTo 64 R → k ≡ record { size = p .limit + 1; start = 0; again = 0; error = first }
       → Searching p R 0 first k
   unfolding backSteps scanned
   searching-start first k e q = record {

@@ -1,9 +1,8 @@
 -- What the corrector's private functions say of the search's state. No promise cites this.
 use mathlib.Core.Path.{_≡_}
-use mathlib.Core.Bool.{true, false}
 use mathlib.Core.List.{List}
 use Prim.Native.Nat.{ℕ, _+_}
-use lib.Dec.{ltb, leb}
+use lib.Dec.{eqb, ltb, leb}
 use Rattle.lists.specs.Choice.{pick}
 use Rattle.code.specs.Code.{generator}
 use Rattle.code.specs.Run.{backSteps}
@@ -16,14 +15,14 @@ use Rattle.block.specs.declared.Found.{Found}
 
 -- the search's state without the shifted remainder
 abbrev pub bestOf : Found → Best
-bestOf k = record { size = k .size; start = k .start; again = k .again }
+bestOf k = record { size = k .size; start = k .start; again = eqb (k .again) 1 }
 
 -- the state after one more start, whose shifted remainder is rest
 unfoldable pub improvedBy : Found → ℕ → ℕ → Register → Found
 improvedBy k n s rest =
     pick (leb (s + extent (cells rest)) n)
-    (pick (ltb (extent (cells rest)) (k .size)) (record { size = extent (cells rest); start = s; again = false; error = rest })
-    (pick (ltb (k .size) (extent (cells rest))) k (record { size = k .size; start = k .start; again = true; error = k .error })))
+    (pick (ltb (extent (cells rest)) (k .size)) (record { size = extent (cells rest); start = s; again = 0; error = rest })
+    (pick (ltb (k .size) (extent (cells rest))) k (record { size = k .size; start = k .start; again = 1; error = k .error })))
     k
 
 -- the state before start s of a block whose remainder is R: rest is the shifted remainder there

@@ -250,11 +250,12 @@ pub fn check(p: Profile, read: &[u8]) -> Checked
 
 // ---- correcting
 
-// What the search has found: the least length, its first start, whether a second start has it, and the shifted remainder there.
+// What the search has found: the least length, its first start, 1 if a second start has it and else 0, and the shifted remainder there.
+// All fields are words: the copies of a struct with gaps between its fields cost more than the search's step.
 struct Found {
     size: usize,
     start: usize,
-    again: bool,
+    again: usize,
     error: Register,
 }
 
@@ -272,7 +273,7 @@ fn improved(k: Found, n: usize, s: usize, rest: Register) -> Found
         return Found {
             size: e,
             start: s,
-            again: false,
+            again: 0,
             error: rest,
         };
     }
@@ -284,7 +285,7 @@ fn improved(k: Found, n: usize, s: usize, rest: Register) -> Found
     Found {
         size,
         start,
-        again: true,
+        again: 1,
         error,
     }
 }
@@ -302,7 +303,7 @@ fn search(p: Profile, first: Register) -> Found
     let mut found = Found {
         size: p.limit + 1,
         start: 0,
-        again: false,
+        again: 0,
         error: first,
     };
     let mut s: usize = 0;
@@ -358,7 +359,7 @@ fn correct_errors(p: Profile, rest: Register, read: &[u8], out: &mut [u8]) -> Ve
     if p.limit < size {
         return Verdict::Uncorrectable;
     }
-    if found.again {
+    if found.again == 1 {
         return Verdict::Ambiguous;
     }
     place(read, register::low_cells(error), start, size, out);

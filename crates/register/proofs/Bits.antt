@@ -17,7 +17,7 @@ use Rattle.code.specs.Poly.{padd, pscale, Bytes}
 use Rattle.code.proofs.Poly.{pscale-zero}
 use Rattle.register.specs.Words.{byte, bytesFrom}
 use Rattle.register.specs.Doubles.{DoublesOf, bitsAt}
-use Rattle.register.specs.declared.Doubles.{Doubles}
+use Rattle.register.specs.declared.word.Doubles.{Doubles}
 use Rattle.register.proofs.Linear.{family, agreeB, shr, byte-add, shr-add, and-add, after, sum-add}
 use Rattle.register.proofs.Words.{word-xor, same8}
 use Rattle.register.proofs.Cells.{word-cells-bytes}

@@ -3,7 +3,7 @@ use mathlib.Core.Path.{_≡_}
 use mathlib.Core.List.{List, [], _∷_}
 use Prim.Native.Nat.{ℕ, _/_, _%_, _^_}
 use Rattle.field.specs.Field.{mul}
-use Rattle.register.specs.declared.Doubles.{Doubles}
+use Rattle.register.specs.declared.word.Doubles.{Doubles}
 
 -- the products of a with 1, 2, 4, .., 128
 abbrev pub DoublesOf : ℕ → Doubles → Type 0

@@ -1,6 +1,5 @@
 // A shift register of 64 cells, each a byte of GF(256): eight words of eight cells, by value. Its contracts are equations on the list of its
-// cells, the lowest first. Each function works on a word at a time: exclusive or, shifts by a constant and masks keep sums, so
-// what a word operation does to its cells is settled at the 64 powers of two.
+// cells, the lowest first. Each function works on a word at a time by the operations of the module `word`.
 ghost use mathlib.Core.Path.{_≡_};
 ghost use Prim.Native.Nat.{ℕ, _<_, _≤_, _*_, _-_, _/_, _%_, _^_, min};
 ghost use lib.Dec.{eqb};
@@ -9,8 +8,9 @@ ghost use Rattle.code.specs.Poly.{padd, pscale};
 ghost use Rattle.code.specs.Code.{generator};
 ghost use Rattle.code.specs.Search.{extent};
 ghost use Rattle.register.specs.Words.{cells, byte, bytesFrom};
-ghost use Rattle.register.specs.Doubles.{DoublesOf, bitsAt};
 ghost use Rattle.register.specs.Register.{shiftUp, shiftDown, feeds, padTo, onTop, backGenerator};
+
+mod word;
 
 /// Eight words of eight cells; the lowest cell is the lowest byte of w0.
 pub struct Register {
@@ -40,48 +40,20 @@ pub fn blank() -> Register
     }
 }
 
-/// The sum, cell by cell.
+/// The sum, cell by cell. The highest word comes first: when a message is divided, the next feedback waits for it alone.
 pub fn add(x: Register, y: Register) -> Register
     ensures { λ r. ⌜ cells r ≡ padd (cells x) (cells y) ⌝ }
 {
     Register {
-        w0: x.w0 ^ y.w0,
-        w1: x.w1 ^ y.w1,
-        w2: x.w2 ^ y.w2,
-        w3: x.w3 ^ y.w3,
-        w4: x.w4 ^ y.w4,
-        w5: x.w5 ^ y.w5,
-        w6: x.w6 ^ y.w6,
         w7: x.w7 ^ y.w7,
+        w6: x.w6 ^ y.w6,
+        w5: x.w5 ^ y.w5,
+        w4: x.w4 ^ y.w4,
+        w3: x.w3 ^ y.w3,
+        w2: x.w2 ^ y.w2,
+        w1: x.w1 ^ y.w1,
+        w0: x.w0 ^ y.w0,
     }
-}
-
-// The cell as the highest of a word.
-fn at_top(c: u8) -> u64
-    ensures { λ r. ⌜ byte r 7 ≡ c ⌝ }
-{
-    (c as u64) << 56
-}
-
-// The cell as the lowest of a word.
-fn at_bottom(c: u8) -> u64
-    ensures { λ r. ⌜ byte r 0 ≡ c ⌝ }
-{
-    c as u64
-}
-
-// A word moved up by a cell; the highest cell of the word below comes in.
-fn word_up(w: u64, below: u64) -> u64
-    ensures { λ r. ⌜ bytesFrom 8 0 r ≡ shiftUp (byte below 7) (bytesFrom 8 0 w) ⌝ }
-{
-    (w << 8) ^ (below >> 56)
-}
-
-// A word moved down by a cell; the lowest cell of the word above comes in.
-fn word_down(w: u64, above: u64) -> u64
-    ensures { λ r. ⌜ bytesFrom 8 0 r ≡ shiftDown (bytesFrom 8 0 w) (byte above 0) ⌝ }
-{
-    (w >> 8) ^ (above << 56)
 }
 
 /// Every cell moves up by one, and c comes in below.
@@ -89,14 +61,14 @@ pub fn push_bottom(x: Register, c: u8) -> Register
     ensures { λ r. ⌜ cells r ≡ shiftUp c (cells x) ⌝ }
 {
     Register {
-        w0: word_up(x.w0, at_top(c)),
-        w1: word_up(x.w1, x.w0),
-        w2: word_up(x.w2, x.w1),
-        w3: word_up(x.w3, x.w2),
-        w4: word_up(x.w4, x.w3),
-        w5: word_up(x.w5, x.w4),
-        w6: word_up(x.w6, x.w5),
-        w7: word_up(x.w7, x.w6),
+        w0: word::word_up(x.w0, word::at_top(c)),
+        w1: word::word_up(x.w1, x.w0),
+        w2: word::word_up(x.w2, x.w1),
+        w3: word::word_up(x.w3, x.w2),
+        w4: word::word_up(x.w4, x.w3),
+        w5: word::word_up(x.w5, x.w4),
+        w6: word::word_up(x.w6, x.w5),
+        w7: word::word_up(x.w7, x.w6),
     }
 }
 
@@ -105,14 +77,14 @@ pub fn push_top(x: Register, c: u8) -> Register
     ensures { λ r. ⌜ cells r ≡ shiftDown (cells x) c ⌝ }
 {
     Register {
-        w0: word_down(x.w0, x.w1),
-        w1: word_down(x.w1, x.w2),
-        w2: word_down(x.w2, x.w3),
-        w3: word_down(x.w3, x.w4),
-        w4: word_down(x.w4, x.w5),
-        w5: word_down(x.w5, x.w6),
-        w6: word_down(x.w6, x.w7),
-        w7: word_down(x.w7, at_bottom(c)),
+        w0: word::word_down(x.w0, x.w1),
+        w1: word::word_down(x.w1, x.w2),
+        w2: word::word_down(x.w2, x.w3),
+        w3: word::word_down(x.w3, x.w4),
+        w4: word::word_down(x.w4, x.w5),
+        w5: word::word_down(x.w5, x.w6),
+        w6: word::word_down(x.w6, x.w7),
+        w7: word::word_down(x.w7, word::at_bottom(c)),
     }
 }
 
@@ -144,35 +116,19 @@ pub fn bottom(x: Register) -> usize
     (x.w0 % 256) as usize
 }
 
-// A byte as an index.
-fn wide(x: u8) -> usize
-    ensures { λ r. ⌜ (r ≡ x) × (r < 256) ⌝ }
-{
-    x as usize
-}
-
-// Each cell of a word doubled: shifted, and 29 added for the bit that leaves.
-fn word_twice(w: u64) -> u64
-    ensures { λ r. ⌜ bytesFrom 8 0 r ≡ pscale 2 (bytesFrom 8 0 w) ⌝ }
-{
-    let l = (w & 0x7f7f7f7f7f7f7f7f) << 1;
-    let h = (w >> 7) & 0x0101010101010101;
-    l ^ h ^ (h << 2) ^ (h << 3) ^ (h << 4)
-}
-
 /// Each cell doubled.
 pub fn twice(x: Register) -> Register
     ensures { λ r. ⌜ cells r ≡ pscale 2 (cells x) ⌝ }
 {
     Register {
-        w0: word_twice(x.w0),
-        w1: word_twice(x.w1),
-        w2: word_twice(x.w2),
-        w3: word_twice(x.w3),
-        w4: word_twice(x.w4),
-        w5: word_twice(x.w5),
-        w6: word_twice(x.w6),
-        w7: word_twice(x.w7),
+        w0: word::word_twice(x.w0),
+        w1: word::word_twice(x.w1),
+        w2: word::word_twice(x.w2),
+        w3: word::word_twice(x.w3),
+        w4: word::word_twice(x.w4),
+        w5: word::word_twice(x.w5),
+        w6: word::word_twice(x.w6),
+        w7: word::word_twice(x.w7),
     }
 }
 
@@ -231,7 +187,7 @@ fn fed(p: Register, input: &[u8]) -> Register
     let mut i = input.len();
     while 0 < i {
         i -= 1;
-        let f = wide(top(x) ^ input[i]);
+        let f = word::wide(top(x) ^ input[i]);
         let next = add(add(shift_up(x), low[f % 16]), high[f / 16]);
         x = next;
     }
@@ -343,39 +299,32 @@ pub fn lowered(x: Register, r: usize) -> Register
     lower_cells(lower_words(x, n / 8), n % 8)
 }
 
-// How many cells of a word are in use.
-fn word_extent(w: u64) -> usize
-    ensures { λ r. ⌜ (r ≡ extent (bytesFrom 8 0 w)) × (r ≤ 8) ⌝ }
-{
-    8 - (u64::leading_zeros(w) as usize) / 8
-}
-
 /// One past the last cell that is not zero; 0 for a blank register.
 pub fn extent(x: Register) -> usize
     ensures { λ r. ⌜ r ≡ extent (cells x) ⌝ }
 {
     if x.w7 != 0 {
-        return 56 + word_extent(x.w7);
+        return 56 + word::word_extent(x.w7);
     }
     if x.w6 != 0 {
-        return 48 + word_extent(x.w6);
+        return 48 + word::word_extent(x.w6);
     }
     if x.w5 != 0 {
-        return 40 + word_extent(x.w5);
+        return 40 + word::word_extent(x.w5);
     }
     if x.w4 != 0 {
-        return 32 + word_extent(x.w4);
+        return 32 + word::word_extent(x.w4);
     }
     if x.w3 != 0 {
-        return 24 + word_extent(x.w3);
+        return 24 + word::word_extent(x.w3);
     }
     if x.w2 != 0 {
-        return 16 + word_extent(x.w2);
+        return 16 + word::word_extent(x.w2);
     }
     if x.w1 != 0 {
-        return 8 + word_extent(x.w1);
+        return 8 + word::word_extent(x.w1);
     }
-    word_extent(x.w0)
+    word::word_extent(x.w0)
 }
 
 /// Whether all cells are zero.
@@ -385,74 +334,20 @@ pub fn is_zero(x: Register) -> bool
     extent(x) == 0
 }
 
-// a, 2 a, 4 a, .., 128 a.
-struct Doubles {
-    c0: u8,
-    c1: u8,
-    c2: u8,
-    c3: u8,
-    c4: u8,
-    c5: u8,
-    c6: u8,
-    c7: u8,
-}
-
-fn doubles_of(a: u8) -> Doubles
-    ensures { λ d. ⌜ DoublesOf a d ⌝ }
-{
-    let c1 = field::double(a);
-    let c2 = field::double(c1);
-    let c3 = field::double(c2);
-    let c4 = field::double(c3);
-    let c5 = field::double(c4);
-    let c6 = field::double(c5);
-    let c7 = field::double(c6);
-    Doubles {
-        c0: a,
-        c1,
-        c2,
-        c3,
-        c4,
-        c5,
-        c6,
-        c7,
-    }
-}
-
-// Bit k of each cell of a word, times c. A product of a bit and a byte is a byte, so no cell carries into the next.
-fn plane(w: u64, k: u64, c: u8) -> u64
-    requires { ⌜ k < 8 ⌝ }
-    ensures { λ r. ⌜ bytesFrom 8 0 r ≡ pscale c (bitsAt k (bytesFrom 8 0 w)) ⌝ }
-{
-    ((w >> k) & 0x0101010101010101) * (c as u64)
-}
-
-// Each cell of a word times a, over the bits of the cells; a blank word needs no work.
-fn word_scale(d: Doubles, w: u64) -> u64
-    ensures { λ r. ⌜ ((a : ℕ) → DoublesOf a d → bytesFrom 8 0 r ≡ pscale a (bytesFrom 8 0 w)) ⌝ }
-{
-    if w == 0 {
-        return 0;
-    }
-    let low = plane(w, 0, d.c0) ^ plane(w, 1, d.c1) ^ plane(w, 2, d.c2) ^ plane(w, 3, d.c3);
-    let high = plane(w, 4, d.c4) ^ plane(w, 5, d.c5) ^ plane(w, 6, d.c6) ^ plane(w, 7, d.c7);
-    low ^ high
-}
-
 /// Each cell times a.
 pub fn scale(a: u8, x: Register) -> Register
     ensures { λ r. ⌜ cells r ≡ pscale a (cells x) ⌝ }
 {
-    let d = doubles_of(a);
+    let d = word::doubles_of(a);
     Register {
-        w0: word_scale(d, x.w0),
-        w1: word_scale(d, x.w1),
-        w2: word_scale(d, x.w2),
-        w3: word_scale(d, x.w3),
-        w4: word_scale(d, x.w4),
-        w5: word_scale(d, x.w5),
-        w6: word_scale(d, x.w6),
-        w7: word_scale(d, x.w7),
+        w0: word::word_scale(d, x.w0),
+        w1: word::word_scale(d, x.w1),
+        w2: word::word_scale(d, x.w2),
+        w3: word::word_scale(d, x.w3),
+        w4: word::word_scale(d, x.w4),
+        w5: word::word_scale(d, x.w5),
+        w6: word::word_scale(d, x.w6),
+        w7: word::word_scale(d, x.w7),
     }
 }
 

@@ -1,4 +1,4 @@
-//! How the times of the proved library grow: three panels, over n at r = 32, over r at n = 255, and over D for D blocks of (255, 32).
+//! How the times of the proved library grow: three panels, over n at r = 32, over r at n = 255, and over D as D times a block of (255, 32).
 
 use bench::Shape;
 

@@ -24,22 +24,22 @@ returns c =
 
 returns-2 : tie.Need-returns-2
 returns-2 c =
-    let s = c .before .before .before .before .before .before .before in
+    let s = c .before .before .before .before .before .before .before .before in
     let y : List ℕ = s .args .read .now in
-    let h : Cells (s .args .p) y = record { count = s .pre .1 .0 .0; bytes = bytes-of y (λ i. omega (arith, c .before .before .before .before .before .before .shared-slice-known .given i)) } in
+    let h : Cells (s .args .p) y = record { count = s .pre .1 .0 .0; bytes = bytes-of y (λ i. omega (arith, c .before .before .before .before .before .before .before .shared-slice-known .given i)) } in
     let R = remainder-cells (s .args .p) (s .pre .0) y _ (s .pre .1 .1 .0) in
-    outcome-twice (s .args .p) y _ (s .pre .0) h (s .pre .1 .1 .1) _ (R .1) _ (c .before .before .before .before .search .ensures) (c .before .if1 .left) (c .if2 .taken)
+    outcome-twice (s .args .p) y _ (s .pre .0) h (s .pre .1 .1 .1) _ (R .1) _ (c .before .before .before .before .before .search .ensures) (c .before .before .if1 .left) (c .if2 .taken)
 
 low-cells-requires : tie.Need-low-cells-requires
 low-cells-requires c κs = search needs
 
 place-requires : tie.Need-place-requires
 place-requires c κs =
-    let s = c .before .before .before .before .before .before .before .before .before in
+    let s = c .before .before .before .before .before .before .before .before .before .before in
     let y : List ℕ = s .args .read .now in
-    let h : Cells (s .args .p) y = record { count = s .pre .1 .0 .0; bytes = bytes-of y (λ i. omega (arith, c .before .before .before .before .before .before .before .before .shared-slice-known .given i)) } in
+    let h : Cells (s .args .p) y = record { count = s .pre .1 .0 .0; bytes = bytes-of y (λ i. omega (arith, c .before .before .before .before .before .before .before .before .before .shared-slice-known .given i)) } in
     let R = remainder-cells (s .args .p) (s .pre .0) y _ (s .pre .1 .1 .0) in
-    let f = outcome-fits (s .args .p) y (s .args .out .now) (s .pre .0) h (s .pre .1 .1 .1) _ (R .1) _ (c .before .before .before .before .before .before .search .ensures) (c .before .before .before .if1 .left) in
+    let f = outcome-fits (s .args .p) y (s .args .out .now) (s .pre .0) h (s .pre .1 .1 .1) _ (R .1) _ (c .before .before .before .before .before .before .before .search .ensures) (c .before .before .before .before .if1 .left) in
     (s .pre .1 .0 .1 ∙ sym (s .pre .1 .0 .0), (rw (s .pre .1 .0 .0) (f .0), f .1))
 
 same-length : tie.Need-same-length
@@ -47,11 +47,11 @@ same-length c = search needs
 
 returns-3 : tie.Need-returns-3
 returns-3 c =
-    let s = c .before .before .before .before .before .before .before .before .before .before .before .before in
+    let s = c .before .before .before .before .before .before .before .before .before .before .before .before .before in
     let y : List ℕ = s .args .read .now in
-    let h : Cells (s .args .p) y = record { count = s .pre .1 .0 .0; bytes = bytes-of y (λ i. omega (arith, c .before .before .before .before .before .before .before .before .before .before .before .shared-slice-known .given i)) } in
+    let h : Cells (s .args .p) y = record { count = s .pre .1 .0 .0; bytes = bytes-of y (λ i. omega (arith, c .before .before .before .before .before .before .before .before .before .before .before .before .shared-slice-known .given i)) } in
     let R = remainder-cells (s .args .p) (s .pre .0) y _ (s .pre .1 .1 .0) in
-    outcome-once (s .args .p) y (s .args .out .now) (s .pre .0) h (s .pre .1 .1 .1) _ (R .1) _ (c .before .before .before .before .before .before .before .before .before .search .ensures) (c .before .before .before .before .before .before .if1 .left) (c .before .before .before .before .before .if2 .left)
+    outcome-once (s .args .p) y (s .args .out .now) (s .pre .0) h (s .pre .1 .1 .1) _ (R .1) _ (c .before .before .before .before .before .before .before .before .before .before .search .ensures) (c .before .before .before .before .before .before .before .if1 .left) (c .before .before .before .before .before .if2 .left)
     _ _ (c .before .before .before .before .low-cells .ensures) (c .before .before .place .ensures)
 
 pub correct-errors-spec : {M : Type 1} → statement M

@@ -2,8 +2,8 @@
 use Prim.Native.Nat.{_/_, _^_}
 use native.Mathlib.Omega.{arith}
 use Rattle.register.proofs.Bits.{plane-fits, plane-law}
-use Rattle.register.proofs.plane.Statement.{statement}
-use Rattle.register.proofs.plane.Tie as tie
+use Rattle.register.proofs.word.plane.Statement.{statement}
+use Rattle.register.proofs.word.plane.Tie as tie
 
 shr-result : tie.Need-shr-result
 shr-result c = omega arith

@@ -1,8 +1,8 @@
 -- The cells of a word shifted by eight bits, with the highest eight bits of another below.
 use native.Mathlib.Omega.{arith}
 use Rattle.register.proofs.Words.{word-up}
-use Rattle.register.proofs.word_up.Statement.{statement}
-use Rattle.register.proofs.word_up.Tie as tie
+use Rattle.register.proofs.word.word_up.Statement.{statement}
+use Rattle.register.proofs.word.word_up.Tie as tie
 
 returns : tie.Need-returns
 returns c = word-up _ _ (omega arith) (omega arith)

@@ -1,8 +1,8 @@
 -- Seven doublings.
 use native.Mathlib.Omega.{arith}
 use Rattle.register.proofs.Bits.{doubles-law}
-use Rattle.register.proofs.doubles_of.Statement.{statement}
-use Rattle.register.proofs.doubles_of.Tie as tie
+use Rattle.register.proofs.word.doubles_of.Statement.{statement}
+use Rattle.register.proofs.word.doubles_of.Tie as tie
 
 double-requires : tie.Need-double-requires
 double-requires c κs = tt

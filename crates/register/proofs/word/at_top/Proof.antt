@@ -2,8 +2,8 @@
 use mathlib.Core.Path.{_∙_}
 use native.Mathlib.Omega.{arith}
 use Rattle.register.proofs.Linear.{bring-top, byte-low}
-use Rattle.register.proofs.at_top.Statement.{statement}
-use Rattle.register.proofs.at_top.Tie as tie
+use Rattle.register.proofs.word.at_top.Statement.{statement}
+use Rattle.register.proofs.word.at_top.Tie as tie
 
 returns : tie.Need-returns
 returns c = bring-top (c .args .c) (omega arith) ∙ byte-low (c .args .c) (omega arith)

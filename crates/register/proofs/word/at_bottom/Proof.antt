@@ -1,8 +1,8 @@
 -- A number below 256 is its own lowest cell.
 use native.Mathlib.Omega.{arith}
 use Rattle.register.proofs.Linear.{byte-low}
-use Rattle.register.proofs.at_bottom.Statement.{statement}
-use Rattle.register.proofs.at_bottom.Tie as tie
+use Rattle.register.proofs.word.at_bottom.Statement.{statement}
+use Rattle.register.proofs.word.at_bottom.Tie as tie
 
 returns : tie.Need-returns
 returns c = byte-low (c .args .c) (omega arith)

@@ -1,8 +1,8 @@
 -- The planes of the eight bits add up to the multiple; a blank word is its own.
 use native.Mathlib.Omega.{arith}
 use Rattle.register.proofs.Bits.{word-scale, blank-scale}
-use Rattle.register.proofs.word_scale.Statement.{statement}
-use Rattle.register.proofs.word_scale.Tie as tie
+use Rattle.register.proofs.word.word_scale.Statement.{statement}
+use Rattle.register.proofs.word.word_scale.Tie as tie
 
 returns : tie.Need-returns
 returns c = λ a e. blank-scale a _ (c .if1 .taken)

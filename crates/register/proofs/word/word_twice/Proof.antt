@@ -3,8 +3,8 @@ use native.Mathlib.Omega.{arith}
 use Rattle.field.specs.Field.{add}
 use Rattle.register.proofs.Linear.{dbl}
 use Rattle.register.proofs.Words.{word-twice}
-use Rattle.register.proofs.word_twice.Statement.{statement}
-use Rattle.register.proofs.word_twice.Tie as tie
+use Rattle.register.proofs.word.word_twice.Statement.{statement}
+use Rattle.register.proofs.word.word_twice.Tie as tie
 
 returns : tie.Need-returns
 unfolding dbl add

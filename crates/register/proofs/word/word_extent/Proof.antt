@@ -2,8 +2,8 @@
 use native.Mathlib.Omega.{arith}
 use lib.Count.{leading-le}
 use Rattle.register.proofs.LastCell.{word-extent-law}
-use Rattle.register.proofs.word_extent.Statement.{statement}
-use Rattle.register.proofs.word_extent.Tie as tie
+use Rattle.register.proofs.word.word_extent.Statement.{statement}
+use Rattle.register.proofs.word.word_extent.Tie as tie
 
 cast-result : tie.Need-cast-result
 cast-result c = omega (arith, leading-le 64 (c .args .w))

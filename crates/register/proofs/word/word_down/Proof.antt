@@ -1,8 +1,8 @@
 -- The cells of a word shifted by eight bits, with the lowest eight bits of another on top.
 use native.Mathlib.Omega.{arith}
 use Rattle.register.proofs.Words.{word-down}
-use Rattle.register.proofs.word_down.Statement.{statement}
-use Rattle.register.proofs.word_down.Tie as tie
+use Rattle.register.proofs.word.word_down.Statement.{statement}
+use Rattle.register.proofs.word.word_down.Tie as tie
 
 returns : tie.Need-returns
 returns c = word-down _ _ (omega arith) (omega arith)
