@@ -1,0 +1,101 @@
+-- The cases of the lister's answer over plain values, and the lengths of its buffers.
+use mathlib.Core.Path.{_≡_, refl, sym, ap, ap₂, _∙_}
+use mathlib.Core.Bool.{Bool, true, false}
+use mathlib.Core.List.{List, _∷_}
+use Prim.Native.Nat.{ℕ, zero, suc, _+_, _*_, _-_, _≤_, _<_, zero-le}
+use native.Mathlib.Nat.{mul-le-mul, le-of-suc-le-suc, not-suc-le-zero}
+use native.Mathlib.Omega.{arith}
+use lib.Dec.{ltb}
+use lib.ListN.{length, getD, take, drop, replicate, length-drop, length-replicate}
+use lib.Seq.{take-all, length-take-le}
+use borrow.Author.Tests.{lt-ltb, le-ltb}
+use Rattle.lists.specs.Choice.{pick}
+use Rattle.block.specs.Profile.{InRange, inRange, messageLength}
+use Rattle.block.specs.Block.{refusing}
+use Rattle.block.specs.declared.Profile.{Profile}
+use Rattle.block.specs.declared.Verdict.the-variants as verdicts
+use Rattle.sheet.specs.Sheet.{readAnswer, readPayload, refusalNumber, refusalPlace}
+use Rattle.sheet.specs.declared.Reading.{Reading}
+use Rattle.sheet.specs.declared.Reading.the-variants.{Refused, Accepted}
+use Rattle.sheet.specs.declared.Refusal.{Refusal}
+use Rattle.sheet.specs.declared.Refusal.the-variants.{BadProfile, WrongLength, Block}
+use Rattle.plot.specs.Grammar.{reading}
+use Rattle.listing_text.specs.Text.{refusalText, listingText}
+use Rattle.listing_text.specs.Buffer.{textIn, textLength}
+use Rattle.listing.specs.Listing.{profileOf, readText, scratchOf, payloadOf, sheetText, listed}
+
+pub profile-is : (input : List ℕ) (n r b limit depth : ℕ) → n ≡ getD input 0 0 → r ≡ getD input 1 0 → b ≡ getD input 2 0 → limit ≡ getD input 3 0 → depth ≡ getD input 4 0
+    → _≡_ {A = Profile} (record { n = n; r = r; b = b; limit = limit; depth = depth }) (profileOf input)
+profile-is input n r b limit depth en er eb el ed = rw (en, er, eb, el, ed)
+
+pub number-small : (r : Refusal) → refusalNumber r < 256
+number-small BadProfile = omega arith
+number-small WrongLength = omega arith
+number-small (Block n verdicts.BadProfile) = omega arith
+number-small (Block n verdicts.WrongLength) = omega arith
+number-small (Block n verdicts.Uncorrectable) = omega arith
+number-small (Block n verdicts.Ambiguous) = omega arith
+number-small (Block n (verdicts.Corrected s f)) = omega arith
+
+module _ (p : Profile) (sheet scratch payload : List ℕ) (es : scratch ≡ scratchOf p) (ep : payload ≡ payloadOf p) where
+  pub text-refused : (r : Refusal) → Refused r ≡ readAnswer p sheet scratch payload → refusalText (refusalNumber r) (refusalPlace r) ≡ sheetText p sheet
+  unfolding sheetText readText
+  text-refused r e =
+      ap (λ (a : Reading). readText a (readPayload p sheet (scratchOf p) (payloadOf p)))
+      (e ∙ ap₂ (λ (s q : List ℕ). readAnswer p sheet s q) es ep)
+
+  pub text-accepted : (changed : ℕ) (back : List ℕ) → Accepted changed ≡ readAnswer p sheet scratch payload → back ≡ readPayload p sheet scratch payload
+      → listingText changed (reading back) ≡ sheetText p sheet
+  unfolding sheetText readText
+  text-accepted changed back e b =
+      ap₂ readText (e ∙ ap₂ (λ (s q : List ℕ). readAnswer p sheet s q) es ep) (b ∙ ap₂ (λ (s q : List ℕ). readPayload p sheet s q) es ep)
+
+-- a profile that is out of range is refusal 1, whatever the sheet
+bad-answer : (p : Profile) (sheet scratch payload : List ℕ) → inRange p ≡ false → Refused BadProfile ≡ readAnswer p sheet scratch payload
+unfolding readAnswer refusing
+bad-answer p sheet scratch payload e = rw e
+
+pub listed-bad : (input : List ℕ) → 5 ≤ length input → inRange (profileOf input) ≡ false → refusalText 1 0 ≡ listed input
+unfolding listed
+listed-bad input l e =
+    rw (le-ltb (length input) 5 l)
+    (text-refused (profileOf input) (drop 5 input) (scratchOf (profileOf input)) (payloadOf (profileOf input)) refl refl BadProfile (bad-answer (profileOf input) (drop 5 input) _ _ e))
+
+pub listed-short : (input : List ℕ) → length input < 5 → refusalText 1 0 ≡ listed input
+unfolding listed
+listed-short input l = rw (lt-ltb (length input) 5 l)
+
+pub listed-sheet : (input : List ℕ) → 5 ≤ length input → sheetText (profileOf input) (take (length input - 5) (drop 5 input)) ≡ listed input
+unfolding listed
+listed-sheet input l =
+    rw (le-ltb (length input) 5 l) (ap (sheetText (profileOf input)) (take-all (length input - 5) (drop 5 input) (omega (arith, length-drop 5 input))))
+
+-- an answer written with a text that is equal to the one asked for
+pub same-text : {t u : List ℕ} (out : List ℕ) (r : ℕ) (left : List ℕ) → t ≡ u → (r ≡ textLength t out) × (left ≡ textIn t out) → (r ≡ textLength u out) × (left ≡ textIn u out)
+same-text out r left e w = (w .0 ∙ ap (λ (t : List ℕ). textLength t out) e, w .1 ∙ ap (λ (t : List ℕ). textIn t out) e)
+
+-- the buffers: a first part of zeros is that many zeros
+take-zeros : (n m : ℕ) → m ≤ n → take {A = ℕ} m (replicate n 0) ≡ replicate m 0
+take-zeros n zero l = refl
+take-zeros zero (suc m) l = absurd (not-suc-le-zero l)
+take-zeros (suc n) (suc m) l = ap (λ (t : List ℕ). 0 ∷ t) (take-zeros n m (le-of-suc-le-suc l))
+
+module _ (n m : ℕ) (l : List ℕ) (e : l ≡ replicate n 0) (h : m ≤ n) where
+  pub part-within : m ≤ length l
+  part-within = rw (e, length-replicate {A = ℕ} n 0) h
+
+  pub part-length : m ≡ length (take m l)
+  part-length = sym (length-take-le m l part-within)
+
+  pub part-zeros : take m l ≡ replicate m 0
+  part-zeros = ap (take m) e ∙ take-zeros n m h
+
+-- 16 blocks of 255 cells, of 253 message bytes
+module _ (p : Profile) (v : InRange p) where
+  pub cells-fit : p .depth * p .n ≤ 4080
+  cells-fit = omega (arith, mul-le-mul (v .depth-most) (v .n-most))
+
+  pub bytes-fit : (k : ℕ) → k ≡ messageLength p → p .depth * k ≤ 4048
+  bytes-fit k e =
+      let l : k ≤ 253 = omega (arith, e, v .n-most, v .r-least) in
+      omega (arith, mul-le-mul (v .depth-most) l)

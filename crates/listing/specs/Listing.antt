@@ -1,0 +1,37 @@
+-- The plot lister's answer to the bytes of its standard input (L1, L2): "the bytes n, r, b, L, D, then the sheet. Fewer than five bytes is
+-- refusal 1, a sheet of other than D × n bytes 2." The scratch and the payload buffer of the sheet reader are the lister's own, and zero.
+use mathlib.Core.List.{List}
+use Prim.Native.Nat.{ℕ, _*_}
+use lib.Dec.{ltb}
+use lib.ListN.{length, getD, drop, replicate}
+use Rattle.lists.specs.Choice.{pick}
+use Rattle.block.specs.Profile.{messageLength}
+use Rattle.block.specs.declared.Profile.{Profile}
+use Rattle.sheet.specs.Sheet.{readAnswer, readPayload, refusalNumber, refusalPlace}
+use Rattle.sheet.specs.declared.Reading.{Reading}
+use Rattle.sheet.specs.declared.Reading.the-variants.{Refused, Accepted}
+use Rattle.plot.specs.Grammar.{reading}
+use Rattle.listing_text.specs.Text.{refusalText, listingText}
+
+-- L1: "the bytes n, r, b, L, D"
+abbrev pub profileOf : List ℕ → Profile
+profileOf input = record { n = getD input 0 0; r = getD input 1 0; b = getD input 2 0; limit = getD input 3 0; depth = getD input 4 0 }
+
+-- L2: the text for a sheet that was read, with the payload that came back
+unfoldable pub readText : Reading → List ℕ → List ℕ
+readText (Refused r) payload = refusalText (refusalNumber r) (refusalPlace r)
+readText (Accepted changed) payload = listingText changed (reading payload)
+
+-- the reader's buffers, zero
+abbrev pub scratchOf : Profile → List ℕ
+scratchOf p = replicate (p .depth * p .n) 0
+
+abbrev pub payloadOf : Profile → List ℕ
+payloadOf p = replicate (p .depth * messageLength p) 0
+
+unfoldable pub sheetText : Profile → List ℕ → List ℕ
+sheetText p sheet = readText (readAnswer p sheet (scratchOf p) (payloadOf p)) (readPayload p sheet (scratchOf p) (payloadOf p))
+
+-- L1: the whole answer
+unfoldable pub listed : List ℕ → List ℕ
+listed input = pick (ltb (length input) 5) (refusalText 1 0) (sheetText (profileOf input) (drop 5 input))
