@@ -4,3 +4,4 @@ pub mod Sound
 pub mod Entries
 pub mod Complete
 pub mod Canonical
+pub mod Sheets

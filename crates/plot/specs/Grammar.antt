@@ -14,6 +14,7 @@ use Rattle.plot.specs.declared.Refusal.the-variants.{WrongLength, BadMar
 use Rattle.plot.specs.declared.Step.{Step}
 use Rattle.plot.specs.declared.Step.the-variants.{Record, End, Refused}
 
+-- every byte of the list is zero
 unfoldable pub allZero : List ℕ → Bool
 allZero [] = true
 allZero (x ∷ s) = pick (eqb x 0) (allZero s) false
@@ -24,8 +25,8 @@ agree [] s = true
 agree (m ∷ ms) [] = true
 agree (m ∷ ms) (x ∷ s) = pick (eqb x m) (agree ms s) false
 
--- "If the byte there is zero, all later bytes must be zero. Otherwise the checks are, in order: as much of the mark as the payload holds; the five
--- header bytes are there; at most 40 lines; all lines are there; plot number not 0": the checks of a record before its lines
+-- "the checks are, in order: as much of the mark as the payload holds; the five header bytes are there; at most 40 lines; all lines are there; plot
+-- number not 0": the checks of a record before its lines
 unfoldable pub headAt : ℕ → List ℕ → Step
 headAt at s =
     pick (not (agree mark s)) (Refused (BadMark at))
@@ -35,7 +36,7 @@ headAt at s =
     (pick (eqb (plotOf s) 0) (Refused (BadTally at))
     (Record (at + headerLength) (countOf s) (record { at = at + recordLength (countOf s); last = plotOf s }))))))
 
--- the byte past the payload's end counts as zero, with no later bytes
+-- "If the byte there is zero, all later bytes must be zero. Otherwise the checks are ..": at the payload's end stands no byte, which counts as zero
 unfoldable pub stepAt : ℕ → List ℕ → Step
 stepAt at s = pick (eqb (getD s 0 0) 0) (pick (allZero s) End (Refused (BadMark at))) (headAt at s)
 
@@ -44,6 +45,7 @@ pub data Reading : Type 0 where
   Plots : List Plot → ℕ → Reading
   Stopped : Refusal → Reading
 
+-- a plot before the plots of a reading
 abbrev pub onto : Plot → Reading → Reading
 onto p (Plots ps end) = Plots (p ∷ ps) end
 onto p (Stopped r) = Stopped r
@@ -71,5 +73,6 @@ longest = 4048
 unfoldable pub reading : List ℕ → Reading
 reading s = pick (ltb longest (length s)) (Stopped WrongLength) (readFrom (length s) 0 0 s)
 
+-- the reading gave plots, and no refusal
 abbrev pub Accepted : Reading → Type 0
 Accepted q = (ps : List Plot) × (end : ℕ) × (q ≡ Plots ps end)

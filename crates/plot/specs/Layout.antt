@@ -36,6 +36,7 @@ lineOf s = record { species = getD s 0 0; class = getD s 1 0; count = getD s 2 0
 abbrev pub noLine : Line
 noLine = record { species = 0; class = 0; count = 0 }
 
+-- "least to most"
 abbrev pub within : ℕ → ℕ → ℕ → Bool
 within least most x = pick (ltb x least) false (leb x most)
 
@@ -63,6 +64,7 @@ pub record Plot : Type 0 where
   pub number : ℕ
   pub lines : List ℕ
 
+-- its number of lines
 abbrev pub linesOf : Plot → ℕ
 linesOf p = length (p .lines) / 3
 

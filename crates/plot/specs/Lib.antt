@@ -2,3 +2,4 @@ pub mod Layout
 pub mod Grammar
 pub mod Answers
 pub mod Canonical
+pub mod Sheets

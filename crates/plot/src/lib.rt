@@ -7,6 +7,7 @@ use record::HEADER;
 use record::all_zero;
 use record::head;
 use record::put_record;
+use tally::NO_LINE;
 use tally::line_at;
 use tally::line_holds;
 use tally::lines_hold;
@@ -128,11 +129,7 @@ pub fn check(payload: &[u8]) -> Checked
     'records: loop {
         match c.next(payload) {
             Step::Record { lines, count, next } => {
-                let mut before = Line {
-                    species: 0,
-                    class: 0,
-                    count: 0,
-                };
+                let mut before = NO_LINE;
                 let mut i = 0;
                 while i < count {
                     let line = line_at(payload, lines + i * 3);

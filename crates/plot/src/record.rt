@@ -6,7 +6,7 @@ use crate::Step;
 ghost use mathlib.Core.Path.{_≡_};
 ghost use Prim.Native.Nat.{ℕ, _+_, _≤_, _<_, _^_};
 ghost use lib.ListN.{length};
-ghost use Rattle.plot.specs.Layout.{Plot, mark, headerOf, recordOf};
+ghost use Rattle.plot.specs.Layout.{Plot, mark, headerLength, headerOf, recordOf};
 ghost use Rattle.plot.specs.Grammar.{allZero, agree, headAt};
 
 // The mark before each record: compared by the reader, written by `add`.
@@ -78,7 +78,7 @@ pub(crate) fn head(s: &[u8], at: usize) -> Step
 }
 
 fn put_header(s: &mut [u8], plot: u16, count: u8)
-    requires { ⌜ length (now s) ≡ 5 ⌝ }
+    requires { ⌜ length (now s) ≡ headerLength ⌝ }
     ensures { λ _. ⌜ now (s .exit) ≡ headerOf plot count ⌝ }
 {
     s[0] = MARK[0];
@@ -100,7 +100,7 @@ fn copy(from: &[u8], to: &mut [u8])
 }
 
 pub(crate) fn put_record(s: &mut [u8], plot: u16, lines: &[u8])
-    requires { ⌜ length (now s) ≡ 5 + length (now lines) ⌝ }
+    requires { ⌜ length (now s) ≡ headerLength + length (now lines) ⌝ }
     requires { ⌜ length (now lines) ≤ 120 ⌝ }
     ensures { λ _. ⌜ now (s .exit) ≡ recordOf (record { number = plot; lines = now (lines .entry) }) ⌝ }
 {

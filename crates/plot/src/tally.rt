@@ -6,6 +6,13 @@ ghost use Prim.Native.Nat.{ℕ, _+_, _≤_, _/_};
 ghost use lib.ListN.{length, drop};
 ghost use Rattle.plot.specs.Layout.{within, rises, lineOf, lineHolds, linesHold, noLine};
 
+// Before the first line stands this one, above which every line rises.
+pub(crate) const NO_LINE: Line = Line {
+    species: 0,
+    class: 0,
+    count: 0,
+};
+
 fn in_range(x: u8, least: u8, most: u8) -> bool
     ensures { λ r. ⌜ r ≡ within least most x ⌝ }
 {
@@ -61,11 +68,7 @@ pub(crate) fn lines_hold(lines: &[u8]) -> bool
     ensures { λ r. ⌜ r ≡ linesHold noLine (length (now (lines .entry)) / 3) (now (lines .entry)) ⌝ }
 {
     let count = lines.len() / 3;
-    let mut before = Line {
-        species: 0,
-        class: 0,
-        count: 0,
-    };
+    let mut before = NO_LINE;
     let mut i = 0;
     while i < count {
         let line = line_at(lines, i * 3);

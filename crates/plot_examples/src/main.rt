@@ -5,7 +5,7 @@ use plot::Added;
 use plot::Located;
 use plot::Refusal;
 
-// The text for a payload.
+// The text for a payload, printed.
 fn list(payload: &[u8]) {
     let mut out = [0u8; 256];
     let n = listing_text::write_listing(payload, 0, &mut out);

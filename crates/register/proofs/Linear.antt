@@ -15,11 +15,11 @@ use Rattle.field.specs.Field.{add, mul, mulBits, double}
 use Rattle.lists.proofs.Test.{all, all-at}
 use Rattle.register.specs.Words.{byte}
 
-agreeB : (ℕ → ℕ) → (ℕ → ℕ) → ℕ → Bool
+unfoldable pub agreeB : (ℕ → ℕ) → (ℕ → ℕ) → ℕ → Bool
 agreeB f g i = eqb (f (2 ^ i)) (g (2 ^ i))
 
 -- a family of pairs of maps, tested at the powers of two
-family : (f g : ℕ → ℕ → ℕ) → ((k : ℕ) → Additive (f k)) → ((k : ℕ) → Additive (g k)) → (n : ℕ)
+pub family : (f g : ℕ → ℕ → ℕ) → ((k : ℕ) → Additive (f k)) → ((k : ℕ) → Additive (g k)) → (n : ℕ)
     → T (all (λ k. all (agreeB (f k) (g k)) 64) n) → (k : ℕ) → k < n → (w : ℕ) → w < 2 ^ 64 → f k w ≡ g k w
 unfolding agreeB
 family f g hf hg n t k hk w h =
@@ -47,7 +47,7 @@ shl-add k a b = ap (λ (x : ℕ). x % 2 ^ 64) step ∙ xor-mod (a * 2 ^ k) (b * 
         ∙ sym (xor-block k a b 0 0 (pow-pos k) (pow-pos k))
         ∙ ap₂ bitXor (add-zero (a * 2 ^ k)) (add-zero (b * 2 ^ k))
 
-shr-add : (k : ℕ) → Additive (shr k)
+pub shr-add : (k : ℕ) → Additive (shr k)
 unfolding add
 shr-add k a b = xor-shr a b k
 
@@ -81,7 +81,7 @@ bit-differ (suc zero) (suc zero) hx hy = refl
 bit-differ (suc zero) (suc (suc y)) hx hy = absurd (omega arith)
 bit-differ (suc (suc x)) y hx hy = absurd (omega arith)
 
-and-add : (m : ℕ) → Additive (λ w. bitAnd w m)
+pub and-add : (m : ℕ) → Additive (λ w. bitAnd w m)
 unfolding add
 and-add m a b = law a b m
   where
@@ -101,10 +101,10 @@ and-add m a b = law a b m
 none-add : Additive (λ w. 0)
 none-add a b = sym (add-self 0)
 
-after : (f g : ℕ → ℕ) → Additive f → Additive g → Additive (λ w. f (g w))
+pub after : (f g : ℕ → ℕ) → Additive f → Additive g → Additive (λ w. f (g w))
 after f g hf hg a b = ap f (hg a b) ∙ hf (g a) (g b)
 
-sum-add : (f g : ℕ → ℕ) → Additive f → Additive g → Additive (λ w. add (f w) (g w))
+pub sum-add : (f g : ℕ → ℕ) → Additive f → Additive g → Additive (λ w. add (f w) (g w))
 sum-add f g hf hg a b = ap₂ add (hf a b) (hg a b) ∙ add-swap (f a) (f b) (g a) (g b)
 
 -- ---- a word moved up by a cell

@@ -7,7 +7,7 @@ use native.Mathlib.Numerals.{add-one}
 use native.Mathlib.Nat.{add-zero}
 use lib.ListN.{length, getD, set, take, drop, replicate, length-take, length-drop, drop-of-length-le}
 use lib.Seq.{drop-cons, drop-drop, getD-take, getD-drop, take-suc, take-suc-set, take-all}
-use Rattle.register.specs.Words.{byte, cells}
+use Rattle.register.specs.Words.{byte, unpack, cells}
 use Rattle.register.specs.Register.{shiftUp, shiftDown, padTo}
 use Rattle.register.specs.declared.Register.{Register}
 use Rattle.register.proofs.Cells.{cells-length}
@@ -57,14 +57,28 @@ lowered-law x X N n eX eN =
 
 -- ---- cells that go out, from the first to the last
 
-pub out-more : (C X out : List ℕ) (v i : ℕ) → length C ≡ 64 → i < 64 → length out ≡ 64 → X ≡ padTo 64 (drop i C) → take i out ≡ take i C → v ≡ getD X 0 0
+-- cell i of the words is cell i % 8 of word i / 8
+pub cell-of : (ws : List ℕ) (i : ℕ) → i < 8 * length ws → getD (unpack ws) i 0 ≡ byte (getD ws (i / 8) 0) (i % 8)
+cell-of [] i h = absurd (omega arith)
+cell-of (w ∷ ws) zero h = refl
+cell-of (w ∷ ws) (suc zero) h = refl
+cell-of (w ∷ ws) (suc (suc zero)) h = refl
+cell-of (w ∷ ws) (suc (suc (suc zero))) h = refl
+cell-of (w ∷ ws) (suc (suc (suc (suc zero)))) h = refl
+cell-of (w ∷ ws) (suc (suc (suc (suc (suc zero))))) h = refl
+cell-of (w ∷ ws) (suc (suc (suc (suc (suc (suc zero)))))) h = refl
+cell-of (w ∷ ws) (suc (suc (suc (suc (suc (suc (suc zero))))))) h = refl
+cell-of (w ∷ ws) (suc (suc (suc (suc (suc (suc (suc (suc i)))))))) h =
+    let q : suc (suc (suc (suc (suc (suc (suc (suc i))))))) / 8 ≡ suc (i / 8) = omega arith in
+    let m : suc (suc (suc (suc (suc (suc (suc (suc i))))))) % 8 ≡ i % 8 = omega arith in
+    cell-of ws i (omega arith) ∙ ap₂ (λ (j k : ℕ). byte (getD (w ∷ ws) j 0) k) (sym q) (sym m)
+
+pub out-more : (C out : List ℕ) (v i : ℕ) → length C ≡ 64 → i < 64 → length out ≡ 64 → take i out ≡ take i C → v ≡ getD C i 0
     → take (i + 1) (set out i v) ≡ take (i + 1) C
-out-more C X out v i l h lo eX et ev =
+out-more C out v i l h lo et ev =
     let e : i + 1 ≡ suc i = add-one i in
-    let cell : v ≡ getD C i 0 =
-    ev ∙ ap (λ (u : List ℕ). getD u 0 0) eX ∙ pad-first 64 (drop i C) (omega arith) ∙ getD-drop i C 0 0 ∙ ap (λ (k : ℕ). getD C k 0) (add-zero i) in
     ap (λ (k : ℕ). take k (set out i v)) e ∙ take-suc-set out i v (omega arith)
-    ∙ ap₂ (λ (u : List ℕ) (k : ℕ). u ++ (k ∷ [])) et cell
+    ∙ ap₂ (λ (u : List ℕ) (k : ℕ). u ++ (k ∷ [])) et ev
     ∙ sym (take-suc C i 0 (omega arith)) ∙ ap (λ (k : ℕ). take k C) (sym e)
 
 pub out-all : (C out : List ℕ) (i : ℕ) → length C ≡ 64 → length out ≡ 64 → 64 ≤ i → take i out ≡ take i C → out ≡ C

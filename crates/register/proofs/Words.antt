@@ -22,7 +22,7 @@ word-xor (suc n) k v w = ap₂ _∷_ (xored k v w) (word-xor n (suc k) v w)
 abbrev eight : (x0 x1 x2 x3 x4 x5 x6 x7 : ℕ) → List ℕ
 eight x0 x1 x2 x3 x4 x5 x6 x7 = x0 ∷ x1 ∷ x2 ∷ x3 ∷ x4 ∷ x5 ∷ x6 ∷ x7 ∷ []
 
-same8 : (x0 x1 x2 x3 x4 x5 x6 x7 y0 y1 y2 y3 y4 y5 y6 y7 : ℕ) → x0 ≡ y0 → x1 ≡ y1 → x2 ≡ y2 → x3 ≡ y3 → x4 ≡ y4 → x5 ≡ y5 → x6 ≡ y6 → x7 ≡ y7
+pub same8 : (x0 x1 x2 x3 x4 x5 x6 x7 y0 y1 y2 y3 y4 y5 y6 y7 : ℕ) → x0 ≡ y0 → x1 ≡ y1 → x2 ≡ y2 → x3 ≡ y3 → x4 ≡ y4 → x5 ≡ y5 → x6 ≡ y6 → x7 ≡ y7
     → eight x0 x1 x2 x3 x4 x5 x6 x7 ≡ eight y0 y1 y2 y3 y4 y5 y6 y7
 same8 x0 x1 x2 x3 x4 x5 x6 x7 y0 y1 y2 y3 y4 y5 y6 y7 e0 e1 e2 e3 e4 e5 e6 e7 =
     ap₂ _∷_ e0 (ap₂ _∷_ e1 (ap₂ _∷_ e2 (ap₂ _∷_ e3 (ap₂ _∷_ e4 (ap₂ _∷_ e5 (ap₂ _∷_ e6 (ap₂ _∷_ e7 refl)))))))

@@ -9,6 +9,7 @@ ghost use Rattle.code.specs.Poly.{padd, pscale};
 ghost use Rattle.code.specs.Code.{generator};
 ghost use Rattle.code.specs.Search.{extent};
 ghost use Rattle.register.specs.Words.{cells, byte, bytesFrom};
+ghost use Rattle.register.specs.Doubles.{DoublesOf, bitsAt};
 ghost use Rattle.register.specs.Register.{shiftUp, shiftDown, feeds, padTo, onTop, backGenerator};
 
 /// Eight words of eight cells; the lowest cell is the lowest byte of w0.
@@ -268,27 +269,26 @@ pub fn from_cells(s: [u8; 64]) -> Register
     load(&s)
 }
 
+// Cell k of a word.
+fn cell_at(w: u64, k: usize) -> u8
+    requires { ⌜ k < 8 ⌝ }
+    ensures { λ r. ⌜ r ≡ byte w k ⌝ }
+{
+    ((w >> (8 * k)) % 256) as u8
+}
+
 /// The cells of a register.
 pub fn low_cells(x: Register) -> [u8; 64]
     ensures { λ r. ⌜ r ≡ cells x ⌝ }
 {
+    let w = [x.w0, x.w1, x.w2, x.w3, x.w4, x.w5, x.w6, x.w7];
     let mut out = [0u8; 64];
-    let mut rest = x;
     let mut i: usize = 0;
     while i < 64 {
-        out[i] = lowest(rest);
-        let next = shift_down(rest);
-        rest = next;
+        out[i] = cell_at(w[i / 8], i % 8);
         i += 1;
     }
     out
-}
-
-// The lowest cell, as a byte.
-fn lowest(x: Register) -> u8
-    ensures { λ r. ⌜ r ≡ getD (cells x) 0 0 ⌝ }
-{
-    (x.w0 % 256) as u8
 }
 
 // Eight cells down: the words move.
@@ -385,44 +385,75 @@ pub fn is_zero(x: Register) -> bool
     extent(x) == 0
 }
 
-// A register, or a blank one, by a bit.
-fn gated(bit: u64, x: Register) -> Register
-    requires { ⌜ bit < 2 ⌝ }
-    ensures { λ r. ⌜ cells r ≡ pscale bit (cells x) ⌝ }
+// a, 2 a, 4 a, .., 128 a.
+struct Doubles {
+    c0: u8,
+    c1: u8,
+    c2: u8,
+    c3: u8,
+    c4: u8,
+    c5: u8,
+    c6: u8,
+    c7: u8,
+}
+
+fn doubles_of(a: u8) -> Doubles
+    ensures { λ d. ⌜ DoublesOf a d ⌝ }
 {
-    let m = bit * 0xffffffffffffffff;
-    Register {
-        w0: x.w0 & m,
-        w1: x.w1 & m,
-        w2: x.w2 & m,
-        w3: x.w3 & m,
-        w4: x.w4 & m,
-        w5: x.w5 & m,
-        w6: x.w6 & m,
-        w7: x.w7 & m,
+    let c1 = field::double(a);
+    let c2 = field::double(c1);
+    let c3 = field::double(c2);
+    let c4 = field::double(c3);
+    let c5 = field::double(c4);
+    let c6 = field::double(c5);
+    let c7 = field::double(c6);
+    Doubles {
+        c0: a,
+        c1,
+        c2,
+        c3,
+        c4,
+        c5,
+        c6,
+        c7,
     }
 }
 
-// Bit k of a byte.
-fn bit_of(a: u8, k: u8) -> u64
+// Bit k of each cell of a word, times c. A product of a bit and a byte is a byte, so no cell carries into the next.
+fn plane(w: u64, k: u64, c: u8) -> u64
     requires { ⌜ k < 8 ⌝ }
-    ensures { λ r. ⌜ r ≡ a / 2 ^ k % 2 ⌝ }
+    ensures { λ r. ⌜ bytesFrom 8 0 r ≡ pscale c (bitsAt k (bytesFrom 8 0 w)) ⌝ }
 {
-    ((a >> k) % 2) as u64
+    ((w >> k) & 0x0101010101010101) * (c as u64)
 }
 
-/// Each cell times a, over the bits of a from the highest on.
+// Each cell of a word times a, over the bits of the cells; a blank word needs no work.
+fn word_scale(d: Doubles, w: u64) -> u64
+    ensures { λ r. ⌜ ((a : ℕ) → DoublesOf a d → bytesFrom 8 0 r ≡ pscale a (bytesFrom 8 0 w)) ⌝ }
+{
+    if w == 0 {
+        return 0;
+    }
+    let low = plane(w, 0, d.c0) ^ plane(w, 1, d.c1) ^ plane(w, 2, d.c2) ^ plane(w, 3, d.c3);
+    let high = plane(w, 4, d.c4) ^ plane(w, 5, d.c5) ^ plane(w, 6, d.c6) ^ plane(w, 7, d.c7);
+    low ^ high
+}
+
+/// Each cell times a.
 pub fn scale(a: u8, x: Register) -> Register
     ensures { λ r. ⌜ cells r ≡ pscale a (cells x) ⌝ }
 {
-    let mut sum = blank();
-    let mut left: u8 = 8;
-    while 0 < left {
-        left -= 1;
-        let next = add(twice(sum), gated(bit_of(a, left), x));
-        sum = next;
+    let d = doubles_of(a);
+    Register {
+        w0: word_scale(d, x.w0),
+        w1: word_scale(d, x.w1),
+        w2: word_scale(d, x.w2),
+        w3: word_scale(d, x.w3),
+        w4: word_scale(d, x.w4),
+        w5: word_scale(d, x.w5),
+        w6: word_scale(d, x.w6),
+        w7: word_scale(d, x.w7),
     }
-    sum
 }
 
 /// The low r cells of the generator with the roots α^b, α^(b+1), .. as the highest of the register; r counts as at most 64. Each root a makes

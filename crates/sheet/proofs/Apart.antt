@@ -1,13 +1,13 @@
 -- Putting blocks and messages together and taking them apart again. Each law compares cell by cell, by the quotient and the remainder
 -- of a place.
 use mathlib.Core.Path.{_≡_, refl, sym, ap, ap₂, subst, _∙_}
-use mathlib.Core.Logic.{_≢_, _⊎_, ⊎-elim}
-use mathlib.Core.List.{List, [], _∷_, _++_, append-nil}
+use mathlib.Core.Logic.{_⊎_, ⊎-elim}
+use mathlib.Core.List.{List, _++_, append-nil}
 use Prim.Native.Nat.{ℕ, zero, suc, _+_, _*_, _-_, _/_, _%_, _<_, _≤_, zero-le, suc-le-suc}
 use native.Mathlib.Nat.{mul-comm, suc-mul, zero-mul, not-suc-le-zero, eq-or-lt-of-le}
 use native.Mathlib.Numerals.{add-one}
 use native.Mathlib.Omega.{arith}
-use lib.ListN.{length, getD, set, take, drop, length-drop, drop-of-length-le}
+use lib.ListN.{length, getD, set, drop, length-drop, drop-of-length-le}
 use borrow.Rule.Slice.PartMut.{putMid}
 use lib.Seq.{length-take-le, getD-take, getD-drop, ext-getD, getD-set-same, getD-set-other}
 use Rattle.code.specs.Poly.{Bytes}

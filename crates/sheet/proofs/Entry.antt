@@ -1,14 +1,14 @@
 -- The entries' cases: the lengths' tests, and what each case answers and leaves. A profile in range has at most 16 × 255 cells in a sheet.
-use mathlib.Core.Path.{_≡_, refl, sym, ap, _∙_}
-use mathlib.Core.Bool.{Bool, true, false}
+use mathlib.Core.Path.{_≡_, sym, ap, _∙_}
+use mathlib.Core.Bool.{true, false}
 use mathlib.Core.List.{List}
 use Prim.Native.Nat.{ℕ, _+_, _*_, _-_, _≤_}
 use native.Mathlib.Nat.{mul-le-mul}
 use native.Mathlib.Omega.{arith}
 use lib.Dec.{eqb}
-use lib.ListN.{length, drop, replicate}
+use lib.ListN.{length, replicate}
 use borrow.Author.Tests.{eq-eqb, ne-eqb, eqb-true}
-use Rattle.lists.specs.Choice.{pick, both}
+use Rattle.lists.specs.Choice.{both}
 use Rattle.lists.proofs.Test.{both-true}
 use Rattle.block.specs.Profile.{InRange, inRange, messageLength}
 use Rattle.block.specs.Block.{refusing}
@@ -17,7 +17,7 @@ use Rattle.block.specs.declared.Written.the-variants as writes
 use Rattle.sheet.specs.declared.Refusal.the-variants.{BadProfile, WrongLength}
 use Rattle.sheet.specs.declared.Reading.{Reading}
 use Rattle.sheet.specs.declared.Reading.the-variants.{Refused}
-use Rattle.sheet.specs.Sheet.{joined, codeword, writtenSheet, writeFits, writeAnswer, writeLeaves, isAccepted, sheetAnswer, sheetPayload, readFits, readAnswer, readScratch, readPayload}
+use Rattle.sheet.specs.Sheet.{joined, codeword, writtenSheet, writeFits, writeAnswer, writeLeaves, isAccepted, sheetPayload, readFits, readAnswer, readScratch, readPayload}
 use Rattle.sheet.specs.Steps.{CorrectedAll, messageAt}
 use Rattle.sheet.proofs.Apart.{messages-of-rows}
 

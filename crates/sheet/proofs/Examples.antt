@@ -1,8 +1,8 @@
 -- The starred examples hold: both sides of each row compute to the same, with every definition opened.
 use mathlib.Core.Path.{_≡_, refl}
-use mathlib.Core.Logic.{_⊎_, inl, inr, ⊎-elim}
+use mathlib.Core.Logic.{_⊎_, ⊎-elim}
 use mathlib.Core.List.{List, [], _∷_}
-use Prim.Native.Nat.{ℕ, zero, suc, _+_, _≤_, _<_}
+use Prim.Native.Nat.{ℕ, zero, suc, _<_}
 use native.Mathlib.Omega.{arith}
 use lib.ListN.{getD}
 use Rattle.field.specs.Field.{add, double, mulBits, mul, power, squares, inverse}
@@ -12,7 +12,7 @@ use Rattle.code.specs.Run.{Outside, backStep, backSteps, shiftedRemainder, adde
 use Rattle.code.specs.Search.{extent, better, scanned, extents}
 use Rattle.block.specs.Block.{checkCells, encode, decided, judged, verdict, filled, corrected}
 use Rattle.sheet.specs.Sheet.{interleave, messageOf, writtenBlock, writtenSheet}
-use Rattle.sheet.specs.Examples.{table, StarredExamples}
+use Rattle.sheet.specs.Examples.{StarredExamples}
 
 abbrev read : List ℕ
 read = 8 ∷ 14 ∷ 0 ∷ 0 ∷ []

@@ -1,13 +1,11 @@
 -- Laws on lists that are given cell by cell (`tab`), and on what a loop that writes them makes.
 -- Each goes by recursion on the number of cells.
 use mathlib.Core.Path.{_≡_, refl, sym, ap, subst, _∙_}
-use mathlib.Core.List.{List, [], _∷_, _++_, append-assoc, append-nil}
-use Prim.Native.Nat.{ℕ, zero, suc, _+_, _-_, _*_, _<_, _≤_}
-use native.Mathlib.Nat.{not-suc-le-zero, le-of-suc-le-suc}
-use native.Mathlib.Numerals.{add-one}
-use native.Mathlib.Omega.{arith}
-use lib.ListN.{length, set, getD, take, drop, drop-of-length-le}
-use lib.Seq.{ext-getD, drop-drop, take-at, drop-at, take-length}
+use mathlib.Core.List.{List, _∷_, _++_, append-assoc}
+use Prim.Native.Nat.{ℕ, zero, suc, _+_, _-_, _<_, _≤_}
+use native.Mathlib.Nat.{not-suc-le-zero, le-of-suc-le-suc, suc-add, zero-add}
+use lib.ListN.{length, getD, take, drop, replicate}
+use lib.Seq.{ext-getD, drop-drop, take-at, drop-at, length-take-le}
 use Rattle.sheet.specs.Sheet.{tab}
 
 pub length-tab : (n : ℕ) (f : ℕ → ℕ) → length (tab n f) ≡ n
@@ -27,25 +25,12 @@ is-tab n f l e h = ext-getD 0 l (tab n f) (e ∙ sym (length-tab n f)) (λ i b. 
 pub same-tab : (n : ℕ) (f g : ℕ → ℕ) → ((i : ℕ) → i < n → f i ≡ g i) → tab n f ≡ tab n g
 same-tab n f g h = is-tab n g (tab n f) (length-tab n f) (λ i l. getD-tab n f i l ∙ h i l)
 
-tab-suc : (n : ℕ) (f : ℕ → ℕ) (d : List ℕ) → n < length d → set (tab n f ++ drop n d) n (f n) ≡ tab (suc n) f ++ drop (suc n) d
-tab-suc n f [] l = absurd (not-suc-le-zero l)
-tab-suc zero f (x ∷ d) l = refl
-tab-suc (suc n) f (x ∷ d) l = ap (λ (t : List ℕ). f 0 ∷ t) (tab-suc n (λ (i : ℕ). f (suc i)) d (le-of-suc-le-suc l))
-
--- a turn of a loop that stores f n in cell n
-pub tab-more : (n : ℕ) (f : ℕ → ℕ) (d : List ℕ) → n < length d → set (tab n f ++ drop n d) n (f n) ≡ tab (n + 1) f ++ drop (n + 1) d
-tab-more n f d l = rw add-one (tab-suc n f d l)
-
--- a list laid over one of its own length is all that is left
-pub laid-over : (s d : List ℕ) → length d ≡ length s → take (length s) s ++ drop (length s) d ≡ s
-laid-over s d e = let h : length d ≤ length s = omega arith in rw (take-length, drop-of-length-le d h) (append-nil s)
-
 pub tab-add : (a k : ℕ) (f : ℕ → ℕ) → tab (a + k) f ≡ tab a f ++ tab k (λ (j : ℕ). f (a + j))
-tab-add zero k f = rw native.Mathlib.Nat.zero-add (same-tab k f (λ (j : ℕ). f (0 + j)) (λ i l. ap f (sym (native.Mathlib.Nat.zero-add i))))
+tab-add zero k f = rw zero-add (same-tab k f (λ (j : ℕ). f (0 + j)) (λ i l. ap f (sym (zero-add i))))
 tab-add (suc a) k f =
-    rw native.Mathlib.Nat.suc-add
+    rw suc-add
     (ap (λ (t : List ℕ). f 0 ∷ t)
-    (tab-add a k (λ (i : ℕ). f (suc i)) ∙ ap (λ (t : List ℕ). tab a (λ (i : ℕ). f (suc i)) ++ t) (same-tab k (λ (j : ℕ). f (suc (a + j))) (λ (j : ℕ). f (suc a + j)) (λ i l. ap f (sym (native.Mathlib.Nat.suc-add a i))))))
+    (tab-add a k (λ (i : ℕ). f (suc i)) ∙ ap (λ (t : List ℕ). tab a (λ (i : ℕ). f (suc i)) ++ t) (same-tab k (λ (j : ℕ). f (suc (a + j))) (λ (j : ℕ). f (suc a + j)) (λ i l. ap f (sym (suc-add a i))))))
 
 -- a turn of a loop that stores the k cells w from cell a on
 pub part-more : (a k : ℕ) (f : ℕ → ℕ) (o w : List ℕ) → a ≤ length o → length w ≡ k → ((j : ℕ) → j < k → getD w j 0 ≡ f (a + j))
@@ -53,3 +38,11 @@ pub part-more : (a k : ℕ) (f : ℕ → ℕ) (o w : List ℕ) → a ≤ length 
 part-more a k f o w l e h =
     rw (take-at (tab a f) (drop a o) a (length-tab a f), drop-at (tab a f) (drop a o) a (length-tab a f), drop-drop, tab-add, append-assoc)
     (ap (λ (t : List ℕ). tab a f ++ (t ++ drop (a + k) o)) (is-tab k (λ (j : ℕ). f (a + j)) w e h))
+
+-- 255 zeros, of which the first n are lent
+unfoldable pub zeros : List ℕ
+zeros = replicate 255 0
+
+pub lent : (n : ℕ) → n ≤ 255 → length (take n zeros) ≡ n
+unfolding zeros
+lent n h = length-take-le n zeros h

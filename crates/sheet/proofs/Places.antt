@@ -1,10 +1,8 @@
 -- Where the cells of a block and the bytes of a message stand. Place i D + d with d < D has quotient i and remainder d by D, and lies
 -- within D × n cells where i < n.
-use mathlib.Core.Path.{_≡_, refl, sym, ap, ap₂, _∙_}
-use mathlib.Core.Logic.{_↔_}
+use mathlib.Core.Path.{_≡_, _∙_}
 use Prim.Native.Nat.{ℕ, zero, suc, _+_, _*_, _-_, _/_, _%_, _<_, _≤_}
-use native.Mathlib.Nat.{suc-mul, mul-comm, mul-le-mul-right, mul-add-div-right, mul-add-mod-self-right, div-eq-of-lt, mod-eq-of-lt, div-lt-iff-lt-mul, mod-lt, div-add-mod'}
-use native.Mathlib.Numerals.{add-one}
+use native.Mathlib.Nat.{suc-mul, mul-comm, mul-le-mul-right, mul-add-div-right, mul-add-mod-self-right, div-eq-of-lt, mod-eq-of-lt, div-lt-iff-lt-mul, mod-lt, div-add-mod', zero-mul}
 use native.Mathlib.Omega.{arith}
 
 -- cell i of block d lies within the sheet
@@ -34,7 +32,7 @@ module _ (D n p : ℕ) (h : p < D * n) where
   some = positive D h
     where
       positive : (D : ℕ) → p < D * n → 0 < D
-      positive zero l = omega (arith, native.Mathlib.Nat.zero-mul n)
+      positive zero l = omega (arith, zero-mul n)
       positive (suc D) l = omega arith
 
   pub remainder-below : p % D < D

@@ -1,8 +1,8 @@
 -- The promise of specs/Promise.antt. Each block of a damaged sheet agrees with the written block outside a run of at most h cells, so
 -- it is corrected to it by the block's promise; a written block is its own codeword.
-use mathlib.Core.Path.{_≡_, refl, sym, ap, ap₂, subst, _∙_}
-use mathlib.Core.Logic.{_⊎_, inl, inr, ⊎-elim}
-use mathlib.Core.Bool.{true, false}
+use mathlib.Core.Path.{_≡_, refl, sym, ap, subst, _∙_}
+use mathlib.Core.Logic.{_⊎_, ⊎-elim}
+use mathlib.Core.Bool.{true}
 use mathlib.Core.List.{List}
 use Prim.Native.Nat.{ℕ, _+_, _*_, _≤_, _<_, zero-le}
 use native.Mathlib.Omega.{arith}
@@ -11,13 +11,15 @@ use borrow.Author.Tests.{eq-eqb}
 use Rattle.lists.specs.Choice.{pick}
 use Rattle.code.specs.Run.{Outside}
 use Rattle.block.specs.Profile.{InRange, messageLength, half}
-use Rattle.block.specs.Block.{refusing, corrected}
-use Rattle.block.specs.Promises.{Cells, Word, Reached, TwoReached, OneReached}
+use Rattle.block.specs.Block.{refusing}
+use Rattle.block.specs.Promises.{Cells, Word, Reached, OneReached}
 use Rattle.block.specs.declared.Profile.{Profile}
 use Rattle.block.proofs.Ranges.{in-range}
 use Rattle.block.proofs.Promises.{exactly-one, corrected-iff, half-promise}
-use Rattle.sheet.specs.Sheet.{messageOf, joined, writtenBlock, writtenSheet, writeFits, writeAnswer, writeLeaves, readBlock, differ}
-use Rattle.sheet.specs.Theorems.{Payload, Sheet, Lent, HasWord, AllWords, differing}
+use Rattle.sheet.specs.declared.Reading.the-variants.{Accepted}
+use Rattle.sheet.specs.Sheet.{messageOf, writtenBlock, writtenSheet, writeFits, writeAnswer, writeLeaves, readBlock, differ}
+use Rattle.sheet.specs.Buffers.{Payload, differing}
+use Rattle.sheet.specs.Theorems.{HasWord, AllWords}
 use Rattle.sheet.specs.Promise.{Writes, ReadsBack, Damaged, SheetPromise}
 use Rattle.sheet.proofs.Places.{cell-inside}
 use Rattle.sheet.proofs.Apart.{block-cell, same-joined, joined-messages}
@@ -62,7 +64,7 @@ module _ (p : Profile) (m : List ℕ) (v : InRange p) (h : Payload p m) where
   reads-back : (sheet : List ℕ) → AllWords p sheet (writtenBlock p m) → ReadsBack p m sheet (differing (p .depth) (readBlock p written) (readBlock p sheet))
   reads-back sheet a scratch out l =
       let q = all-words p sheet scratch out v l (writtenBlock p m) a in (
-        q .answer ∙ ap Rattle.sheet.specs.declared.Reading.the-variants.Accepted
+        q .answer ∙ ap Accepted
             (same-sum (p .depth) (λ (d : ℕ). pick (differ (writtenBlock p m d) (readBlock p sheet d)) 1 0) (λ (d : ℕ). pick (differ (readBlock p written d) (readBlock p sheet d)) 1 0)
             (λ d k. ap (λ (x : List ℕ). pick (differ x (readBlock p sheet d)) 1 0) (sym (written-block p m v h d k)))),
         q .payload

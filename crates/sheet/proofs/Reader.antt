@@ -1,18 +1,17 @@
 -- What the reader answers: all blocks corrected, or the first that is not. By recursion on the number of blocks left.
-use mathlib.Core.Path.{_≡_, refl, sym, ap, ap₂, subst, _∙_}
+use mathlib.Core.Path.{_≡_, refl, sym, ap, ap₂, _∙_}
 use mathlib.Core.Logic.{_⊎_, inl, inr, ⊎-elim}
 use mathlib.Core.Bool.{Bool, true, false}
-use mathlib.Core.List.{List, [], _∷_}
-use Prim.Native.Nat.{ℕ, zero, suc, _+_, _*_, _-_, _≤_, _<_, zero-le, suc-le-suc}
-use native.Mathlib.Nat.{not-suc-le-zero, le-of-suc-le-suc, eq-or-lt-of-le, add-suc, add-assoc, add-zero}
+use mathlib.Core.List.{List}
+use Prim.Native.Nat.{ℕ, zero, suc, _+_, _-_, _<_, zero-le, suc-le-suc}
+use native.Mathlib.Nat.{not-suc-le-zero, le-of-suc-le-suc, eq-or-lt-of-le, add-assoc}
 use native.Mathlib.Omega.{arith}
 use Rattle.lists.proofs.Test.{true-or-false}
 use Rattle.block.specs.declared.Profile.{Profile}
 use Rattle.sheet.specs.declared.Refusal.the-variants.{Block}
-use Rattle.sheet.specs.declared.Reading.{Reading}
 use Rattle.sheet.specs.declared.Reading.the-variants.{Refused, Accepted}
 use Rattle.sheet.specs.Sheet.{isCorrected, blockVerdict, changedAt, answerFrom, sheetAnswer}
-use Rattle.sheet.specs.Theorems.{sum}
+use Rattle.sheet.specs.Buffers.{sum}
 
 -- a test is true of every number below n, or there is a first of which it is false
 pub first-false : (f : ℕ → Bool) (n : ℕ)

@@ -1,24 +1,23 @@
 -- One law for each turn of the writer's and the reader's loops over the blocks, from what the calls in it leave.
 use mathlib.Core.Path.{_≡_, refl, sym, ap, ap₂, _∙_}
-use mathlib.Core.Logic.{_≢_, _⊎_, ⊎-elim}
-use mathlib.Core.Bool.{Bool, true, false}
-use mathlib.Core.List.{List, [], _∷_, _++_}
-use Prim.Native.Nat.{ℕ, zero, suc, _+_, _*_, _-_, _≤_, _<_}
-use native.Mathlib.Nat.{eq-or-lt-of-le}
+use mathlib.Core.Logic.{_⊎_, ⊎-elim}
+use mathlib.Core.Bool.{true, false}
+use mathlib.Core.List.{List, [], _∷_}
+use Prim.Native.Nat.{ℕ, suc, _+_, _*_, _-_, _≤_, _<_}
+use native.Mathlib.Nat.{eq-or-lt-of-le, not-suc-le-zero}
 use native.Mathlib.Numerals.{add-one}
 use native.Mathlib.Omega.{arith}
-use lib.ListN.{length, getD, take, drop}
+use lib.ListN.{length, getD}
 use lib.Dec.{eqb}
 use borrow.Author.Tests.{eq-eqb, ne-eqb}
 use Rattle.lists.proofs.Test.{true-or-false, true-false}
 use Rattle.code.specs.Poly.{Bytes}
 use Rattle.block.specs.Profile.{InRange, messageLength}
-use Rattle.block.specs.Block.{encode, verdict, corrected, correctAnswer, correctLeaves, verdictLength}
+use Rattle.block.specs.Block.{encode, verdict, correctAnswer, correctLeaves, verdictLength}
 use Rattle.block.specs.declared.Profile.{Profile}
 use Rattle.block.specs.declared.Verdict.{Verdict}
 use Rattle.block.specs.declared.Verdict.the-variants as verdicts
 use Rattle.sheet.specs.declared.Refusal.the-variants.{Block}
-use Rattle.sheet.specs.declared.Reading.{Reading}
 use Rattle.sheet.specs.declared.Reading.the-variants.{Refused, Accepted}
 use Rattle.sheet.specs.Sheet.{joined, blockOf, messageOf, writtenBlock, writtenSheet, readBlock, blockVerdict, codeword, isCorrected, changedAt, answerFrom, sheetAnswer}
 use Rattle.sheet.specs.Steps.{Laid, CorrectedInto, CorrectedAll, changedBy}
@@ -112,7 +111,7 @@ module _ (p : Profile) (payload : List ℕ) where
   WrittenBelow d s = (e : ℕ) → e < d → (i : ℕ) → i < p .n → getD s (i * p .depth + e) 0 ≡ getD (writtenBlock p payload e) i 0
 
   pub written-none : (s : List ℕ) → WrittenBelow 0 s
-  written-none s e l = absurd (native.Mathlib.Nat.not-suc-le-zero l)
+  written-none s e l = absurd (not-suc-le-zero l)
 
   pub written-more : (d : ℕ) (m s t : List ℕ) → d < p .depth → m ≡ messageOf (messageLength p) payload d
       → Laid (p .depth) (p .n) d (encode (p .b) (p .r) m) s t → WrittenBelow d s → WrittenBelow (d + 1) t

@@ -1,31 +1,31 @@
 -- The theorems of specs/Theorems.antt. On buffers of the right lengths the entry answers by its blocks; each block's verdict says what
 -- the block's promises say of it.
-use mathlib.Core.Path.{_≡_, refl, sym, ap, ap₂, subst, _∙_}
-use mathlib.Core.Logic.{_↔_, _⊎_, inl, inr, ⊎-elim}
+use mathlib.Core.Path.{_≡_, refl, sym, ap, _∙_}
+use mathlib.Core.Logic.{_⊎_, inl, inr, ⊎-elim}
 use mathlib.Core.Bool.{Bool, true, false}
-use mathlib.Core.List.{List, [], _∷_}
-use Prim.Native.Nat.{ℕ, zero, suc, _+_, _*_, _-_, _≤_, _<_}
+use mathlib.Core.List.{List}
+use Prim.Native.Nat.{ℕ, _*_, _<_}
 use native.Mathlib.Omega.{arith}
-use lib.Dec.{eqb}
-use lib.ListN.{length, getD, drop, replicate}
+use lib.ListN.{length, drop, replicate}
 use borrow.Author.Tests.{eq-eqb}
-use Rattle.lists.specs.Choice.{pick, both}
-use Rattle.lists.proofs.Test.{true-or-false, true-false, lt-or-ge}
+use Rattle.lists.specs.Choice.{pick}
+use Rattle.lists.proofs.Test.{true-or-false}
 use Rattle.code.specs.Poly.{Bytes}
-use Rattle.block.specs.Profile.{InRange, inRange, messageLength}
-use Rattle.block.specs.Block.{refusing, encode, verdict, corrected}
-use Rattle.block.specs.Promises.{Cells, Word, OneReached, WrittenBlock}
+use Rattle.block.specs.Profile.{InRange, messageLength}
+use Rattle.block.specs.Block.{refusing, verdictNumber, writtenNumber}
+use Rattle.block.specs.Promises.{Cells, Word, WrittenBlock}
 use Rattle.block.specs.declared.Profile.{Profile}
 use Rattle.block.specs.declared.Verdict.{Verdict}
-use Rattle.block.proofs.Ranges.{in-range}
+use Rattle.block.proofs.Ranges.{in-range, out-of-range}
 use Rattle.block.proofs.Encoding.{writes-codeword}
-use Rattle.sheet.specs.declared.Refusal.the-variants.{Block}
-use Rattle.sheet.specs.declared.Reading.{Reading}
+use Rattle.sheet.specs.declared.Refusal.the-variants.{BadProfile, WrongLength, Block}
 use Rattle.sheet.specs.declared.Reading.the-variants.{Refused, Accepted}
-use Rattle.sheet.specs.Sheet.{messageOf, joined, writtenBlock, writtenSheet, readBlock, blockVerdict, codeword, isCorrected, isAccepted, differ, changedAt, sheetAnswer, sheetPayload, readFits, readAnswer, readScratch, readPayload}
-use Rattle.sheet.specs.Theorems.{Payload, Sheet, WrittenBlocks, Lent, HasWord, BlockRefused, LowestRefused, AllWords, sum, differing, Refuses, Accepts, ReadResults}
+use Rattle.sheet.specs.Sheet.{messageOf, joined, writtenBlock, writtenSheet, readBlock, blockVerdict, codeword, isCorrected, isAccepted, differ, changedAt, sheetAnswer, sheetPayload, readFits, readAnswer, readScratch, readPayload, writeFits}
+use Rattle.sheet.specs.Buffers.{Payload, Sheet, Lent, differing}
+use Rattle.sheet.specs.Theorems.{WrittenBlocks, HasWord, BlockRefused, LowestRefused, AllWords, Refuses, Accepts, ReadResults, ReadRefused, WriteRefused, EarlyRefusals}
 use Rattle.sheet.proofs.Apart.{block-length, block-bytes, message-length, message-bytes, apart, interleave-length, interleave-bytes, same-joined}
-use Rattle.sheet.proofs.Verdicts.{one-corrected, none-refused, two-refused, corrected-one, refused-reason}
+use Rattle.sheet.proofs.Verdicts.{number-3, number-4, one-corrected, none-refused, two-refused, corrected-one, refused-reason}
+use Rattle.sheet.proofs.Entry.{read-lengths, read-bad, read-wrong, write-lengths, write-bad, write-wrong}
 use Rattle.sheet.proofs.Reader.{first-false, same-sum, all-accepted, first-refused}
 
 -- ---- the written sheet
@@ -77,12 +77,13 @@ module _ (p : Profile) (sheet : List ℕ) (v : InRange p) (h : Bytes sheet) wher
   refused-not-fine : (d : ℕ) (w : Verdict) → BlockRefused p sheet d w → (fine d ≡ false) × (blockVerdict p sheet d ≡ w)
   unfolding blockVerdict
   refused-not-fine d w r =
-      ⊎-elim (λ n. let q = none-refused p (readBlock p sheet d) v (block-cells p sheet d h) (n .1) in (q .1, q .0 ∙ sym (n .0)))
-      (λ z. let q = two-refused p (readBlock p sheet d) v (block-cells p sheet d h) (z .1) in (q .1, q .0 ∙ sym (z .0))) r
+      ⊎-elim (λ n. let q = none-refused p (readBlock p sheet d) v (block-cells p sheet d h) (n .1) in (q .1, q .0 ∙ sym (number-3 w (n .0))))
+      (λ z. let q = two-refused p (readBlock p sheet d) v (block-cells p sheet d h) (z .1) in (q .1, q .0 ∙ sym (number-4 w (z .0)))) r
 
   not-fine-refused : (d : ℕ) → fine d ≡ false → BlockRefused p sheet d (blockVerdict p sheet d)
   unfolding blockVerdict
-  not-fine-refused d t = refused-reason p (readBlock p sheet d) v (block-cells p sheet d h) t
+  not-fine-refused d t =
+      ⊎-elim (λ n. inl (ap verdictNumber (n .0), n .1)) (λ z. inr (ap verdictNumber (z .0), z .1)) (refused-reason p (readBlock p sheet d) v (block-cells p sheet d h) t)
 
   -- a block is refused, or each has a codeword
   pub one-or-all : ((d : ℕ) × (w : Verdict) × LowestRefused p sheet d w) ⊎ ((words : ℕ → List ℕ) × AllWords p sheet words)
@@ -91,7 +92,7 @@ module _ (p : Profile) (sheet : List ℕ) (v : InRange p) (h : Bytes sheet) wher
       (λ z. inl (
         z .0,
         blockVerdict p sheet (z .0),
-        record { below = z .1; refused = not-fine-refused (z .0) (z .3); before = λ e l. (codeword p sheet e, fine-word e (z .2 e l)) },
+        record { below = z .1; refused = not-fine-refused (z .0) (z .3); place = refl; before = λ e l. (codeword p sheet e, fine-word e (z .2 e l)) },
       )) (first-false fine (p .depth))
 
   pub lowest-answer : (d : ℕ) (w : Verdict) → LowestRefused p sheet d w → sheetAnswer p sheet ≡ Refused (Block d w)
@@ -166,3 +167,34 @@ read-results p sheet scratch out v h = record {
   kept = λ d w q. payload-is p sheet scratch out v h ∙ rw (sym (answer-is p sheet scratch out v h) ∙ q);
   cleared = scratch-is p sheet scratch out v h;
 }
+
+-- ---- refusals 1 and 2
+
+module _ (p : Profile) where
+  bad-read : (sheet scratch out : List ℕ) → (InRange p → ⊥) → ReadRefused p sheet scratch out 1
+  bad-read sheet scratch out n =
+      let q = read-bad p sheet scratch out (sym (out-of-range p n)) in
+      record { refusal = BadProfile; answer = sym (q .0); numbered = refl; placed = refl; scratch-kept = sym (q .1 .0); out-kept = sym (q .1 .1) }
+
+  wrong-read : (sheet scratch out : List ℕ) → InRange p
+      → ((length sheet ≡ p .depth * p .n) × (length scratch ≡ p .depth * p .n) × (length out ≡ p .depth * messageLength p) → ⊥)
+      → ReadRefused p sheet scratch out 2
+  wrong-read sheet scratch out v n =
+      ⊎-elim (λ t. absurd (n (read-lengths p (length sheet) (length scratch) (length out) t)))
+      (λ t. let q = read-wrong p sheet scratch out (in-range p .1 v) t in
+      record { refusal = WrongLength; answer = sym (q .0); numbered = refl; placed = refl; scratch-kept = sym (q .1 .0); out-kept = sym (q .1 .1) })
+      (true-or-false (readFits p (length sheet) (length scratch) (length out)))
+
+  bad-write : (m cells : List ℕ) → (InRange p → ⊥) → WriteRefused p m cells 1
+  bad-write m cells n =
+      let q = write-bad p m cells (sym (out-of-range p n)) in
+      record { numbered = ap writtenNumber (sym (q .0)); kept = sym (q .1) }
+
+  wrong-write : (m cells : List ℕ) → InRange p → ((length m ≡ p .depth * messageLength p) × (length cells ≡ p .depth * p .n) → ⊥) → WriteRefused p m cells 2
+  wrong-write m cells v n =
+      ⊎-elim (λ t. absurd (n (write-lengths p (length m) (length cells) t)))
+      (λ t. let q = write-wrong p m cells (in-range p .1 v) t in record { numbered = ap writtenNumber (sym (q .0)); kept = sym (q .1) })
+      (true-or-false (writeFits p (length m) (length cells)))
+
+pub early-refusals : (p : Profile) → EarlyRefusals p
+early-refusals p = record { read-1 = bad-read p; read-2 = wrong-read p; write-1 = bad-write p; write-2 = wrong-write p }

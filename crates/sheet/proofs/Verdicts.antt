@@ -1,24 +1,24 @@
 -- What the verdict on one block says, from the block's promises alone, and when two lists differ.
 -- A block is uncorrectable, ambiguous or corrected; the codeword is the read block exactly where the run has no cell.
 use mathlib.Core.Path.{_≡_, refl, sym, ap, ap₂, subst, _∙_}
-use mathlib.Core.Logic.{_↔_, _≢_, _⊎_, inl, inr, ⊎-elim}
-use mathlib.Core.Bool.{Bool, true, false}
+use mathlib.Core.Logic.{_≢_, _⊎_, inl, inr, ⊎-elim}
+use mathlib.Core.Bool.{true, false}
 use mathlib.Core.List.{List, [], _∷_}
-use Prim.Native.Nat.{ℕ, zero, suc, _+_, _≤_, _<_}
+use Prim.Native.Nat.{ℕ, _<_}
 use native.Mathlib.Omega.{arith}
 use lib.Dec.{eqb}
-use lib.ListN.{length, getD}
+use lib.ListN.{length}
 use lib.Seq.{ext-getD}
-use borrow.Author.Tests.{eq-eqb, ne-eqb, eqb-true, eqb-false}
+use borrow.Author.Tests.{eq-eqb, ne-eqb, eqb-true}
 use Rattle.lists.specs.Choice.{pick}
 use Rattle.lists.proofs.Test.{lt-or-ge, zero-or, true-or-false, true-false}
 use Rattle.code.specs.Run.{Reaches}
 use Rattle.block.specs.Profile.{InRange}
-use Rattle.block.specs.Block.{verdict, corrected}
+use Rattle.block.specs.Block.{verdict, corrected, verdictNumber}
 use Rattle.block.specs.Promises.{Cells, Reached, NoneReached, TwoReached, OneReached}
 use Rattle.block.specs.declared.Profile.{Profile}
 use Rattle.block.specs.declared.Verdict.{Verdict}
-use Rattle.block.specs.declared.Verdict.the-variants.{Uncorrectable, Ambiguous, Corrected}
+use Rattle.block.specs.declared.Verdict.the-variants.{BadProfile, WrongLength, Uncorrectable, Ambiguous, Corrected}
 use Rattle.block.proofs.Promises.{exactly-one, uncorrectable-iff, ambiguous-iff, corrected-iff}
 use Rattle.sheet.specs.Sheet.{isCorrected, differ}
 use Rattle.sheet.specs.Theorems.{DifferIff}
@@ -49,6 +49,21 @@ differ-iff c d = (
 )
 
 -- ---- one block
+
+-- document 01's numbers 3 and 4 are of one verdict each
+pub number-3 : (w : Verdict) → verdictNumber w ≡ 3 → w ≡ Uncorrectable
+number-3 BadProfile e = absurd (omega arith)
+number-3 WrongLength e = absurd (omega arith)
+number-3 Uncorrectable e = refl
+number-3 Ambiguous e = absurd (omega arith)
+number-3 (Corrected s f) e = absurd (omega arith)
+
+pub number-4 : (w : Verdict) → verdictNumber w ≡ 4 → w ≡ Ambiguous
+number-4 BadProfile e = absurd (omega arith)
+number-4 WrongLength e = absurd (omega arith)
+number-4 Uncorrectable e = absurd (omega arith)
+number-4 Ambiguous e = refl
+number-4 (Corrected s f) e = absurd (omega arith)
 
 -- a run of no cell reaches only what was read
 pub no-cell : (n r b : ℕ) (y : List ℕ) (s : ℕ) (c : List ℕ) → length y ≡ n → Reaches n r b y s 0 c → c ≡ y

@@ -5,12 +5,12 @@ use mathlib.Core.List.{List}
 use Prim.Native.Nat.{ℕ, _+_, _*_, _≤_, _<_}
 use lib.ListN.{length, getD}
 use Rattle.code.specs.Run.{Outside}
-use Rattle.block.specs.Profile.{InRange, messageLength, half}
-use Rattle.block.specs.declared.Profile.{Profile}
+pub use Rattle.block.specs.Profile.{InRange, messageLength, half}
+pub use Rattle.block.specs.declared.Profile.{Profile}
 use Rattle.block.specs.declared.Written.the-variants.{Done}
 use Rattle.sheet.specs.declared.Reading.the-variants.{Accepted}
-use Rattle.sheet.specs.Sheet.{writtenSheet, writeAnswer, writeLeaves, readBlock, readAnswer, readPayload}
-use Rattle.sheet.specs.Theorems.{Payload, Sheet, Lent, differing}
+pub use Rattle.sheet.specs.Sheet.{writtenSheet, writeAnswer, writeLeaves, readBlock, readAnswer, readPayload}
+pub use Rattle.sheet.specs.Buffers.{Payload, Sheet, Lent, differing}
 
 module _ (p : Profile) (m : List ℕ) where
   -- the writer takes the payload m and writes all D × n cells

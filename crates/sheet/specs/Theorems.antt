@@ -1,22 +1,21 @@
--- What the definitions of Sheet.antt mean, in the words of document 01 and with no word of how a block is searched (S1 to S6). What a
+-- What the definitions of Sheet.antt mean, in the words of document 01 and with no word of how a block is searched (S1 to S6, E3 to E5). What a
 -- run reaches is the block crate's. proofs/Theorems.antt proves each.
 use mathlib.Core.Path.{_≡_}
 use mathlib.Core.Logic.{_↔_, _≢_, _⊎_}
 use mathlib.Core.Bool.{true, false}
 use mathlib.Core.List.{List}
-use Prim.Native.Nat.{ℕ, zero, suc, _+_, _*_, _/_, _%_, _<_}
+use Prim.Native.Nat.{ℕ, _*_, _/_, _%_, _<_}
 use lib.ListN.{length, getD, drop, replicate}
-use Rattle.lists.specs.Choice.{pick}
-use Rattle.code.specs.Poly.{Bytes}
 use Rattle.block.specs.Profile.{InRange, messageLength}
-use Rattle.block.specs.Block.{encode}
+use Rattle.block.specs.Block.{encode, writtenNumber}
 use Rattle.block.specs.Promises.{NoneReached, TwoReached, OneReached}
 use Rattle.block.specs.declared.Profile.{Profile}
 use Rattle.block.specs.declared.Verdict.{Verdict}
-use Rattle.block.specs.declared.Verdict.the-variants.{Uncorrectable, Ambiguous}
+use Rattle.sheet.specs.declared.Refusal.{Refusal}
 use Rattle.sheet.specs.declared.Refusal.the-variants.{Block}
 use Rattle.sheet.specs.declared.Reading.the-variants.{Refused, Accepted}
-use Rattle.sheet.specs.Sheet.{interleave, blockOf, joined, messageOf, writtenSheet, readBlock, differ, readAnswer, readScratch, readPayload}
+use Rattle.sheet.specs.Sheet.{interleave, blockOf, joined, messageOf, writtenSheet, writeAnswer, writeLeaves, readBlock, differ, readAnswer, readScratch, readPayload, refusalNumber, refusalPlace}
+pub use Rattle.sheet.specs.Buffers.{Payload, Lent, differing}
 
 -- ---- 1. S1: where cells and bytes stand
 
@@ -32,17 +31,6 @@ pub record TakenApart (D : ℕ) : Type 0 where
 
 -- ---- 2. S2: a written sheet
 
-module _ (p : Profile) where
-  -- "The payload has D × k bytes."
-  pub record Payload (m : List ℕ) : Type 0 where
-    pub count : length m ≡ p .depth * messageLength p
-    pub bytes : Bytes m
-
-  -- "A sheet has D × n cells."
-  pub record Sheet (s : List ℕ) : Type 0 where
-    pub count : length s ≡ p .depth * p .n
-    pub bytes : Bytes s
-
 -- block d of a written sheet is the written block of message d
 abbrev pub WrittenBlocks : Type 0
 WrittenBlocks = (p : Profile) (m : List ℕ) (d : ℕ) → InRange p → Payload p m → d < p .depth
@@ -50,39 +38,26 @@ WrittenBlocks = (p : Profile) (m : List ℕ) (d : ℕ) → InRange p → Payload
 
 -- ---- 3. S3 to S6: a sheet that is read
 
--- what the reader is lent: a sheet and a scratch of D × n bytes, and a payload buffer of D × k
-pub record Lent (p : Profile) (sheet scratch out : List ℕ) : Type 0 where
-  pub cells : Sheet p sheet
-  pub scratch-count : length scratch ≡ p .depth * p .n
-  pub out-count : length out ≡ p .depth * messageLength p
-
 module _ (p : Profile) (sheet : List ℕ) where
   -- c is the codeword of block d: the only one at the least length within L
   abbrev pub HasWord : ℕ → List ℕ → Type 0
   HasWord d c = (s f : ℕ) × OneReached p (readBlock p sheet d) s f c
 
-  -- block d is refused: torn or tied
+  -- block d is refused, by document 01's numbers: 3 torn, 4 tied
   abbrev pub BlockRefused : ℕ → Verdict → Type 0
-  BlockRefused d v = ((v ≡ Uncorrectable) × NoneReached p (readBlock p sheet d)) ⊎ ((v ≡ Ambiguous) × TwoReached p (readBlock p sheet d))
+  BlockRefused d v =
+      ((refusalNumber (Block d v) ≡ 3) × NoneReached p (readBlock p sheet d)) ⊎ ((refusalNumber (Block d v) ≡ 4) × TwoReached p (readBlock p sheet d))
 
   -- block d is the lowest that is refused
   pub record LowestRefused (d : ℕ) (v : Verdict) : Type 0 where
     pub below : d < p .depth
     pub refused : BlockRefused d v
+    pub place : refusalPlace (Block d v) ≡ d
     pub before : (e : ℕ) → e < d → (c : List ℕ) × HasWord e c
 
   -- each block has a codeword: block d has words d
   abbrev pub AllWords : (ℕ → List ℕ) → Type 0
   AllWords words = (d : ℕ) → d < p .depth → HasWord d (words d)
-
--- f 0 + .. + f (n − 1)
-unfoldable pub sum : ℕ → (ℕ → ℕ) → ℕ
-sum zero f = 0
-sum (suc n) f = f 0 + sum n (λ (i : ℕ). f (suc i))
-
--- in how many of n places two tables of lists differ
-abbrev pub differing : ℕ → (ℕ → List ℕ) → (ℕ → List ℕ) → ℕ
-differing n a b = sum n (λ (d : ℕ). pick (differ (a d) (b d)) 1 0)
 
 -- `differ` is what it says
 abbrev pub DifferIff : Type 0
@@ -116,3 +91,27 @@ module _ (p : Profile) (sheet scratch out : List ℕ) where
 
 abbrev pub ReadResults : Type 0
 ReadResults = (p : Profile) (sheet scratch out : List ℕ) → InRange p → Lent p sheet scratch out → Results p sheet scratch out
+
+-- ---- 4. E3, E4, S6: refusals 1 and 2 have place 0 and leave every lent buffer as it was; 1 goes before 2, and 2 before the rest
+
+-- the reader is refused with that number
+pub record ReadRefused (p : Profile) (sheet scratch out : List ℕ) (number : ℕ) : Type 0 where
+  pub refusal : Refusal
+  pub answer : readAnswer p sheet scratch out ≡ Refused refusal
+  pub numbered : refusalNumber refusal ≡ number
+  pub placed : refusalPlace refusal ≡ 0
+  pub scratch-kept : readScratch p sheet scratch out ≡ scratch
+  pub out-kept : readPayload p sheet scratch out ≡ out
+
+-- and the writer
+pub record WriteRefused (p : Profile) (m cells : List ℕ) (number : ℕ) : Type 0 where
+  pub numbered : writtenNumber (writeAnswer p m cells) ≡ number
+  pub kept : writeLeaves p m cells ≡ cells
+
+pub record EarlyRefusals (p : Profile) : Type 0 where
+  pub read-1 : (sheet scratch out : List ℕ) → (InRange p → ⊥) → ReadRefused p sheet scratch out 1
+  pub read-2 : (sheet scratch out : List ℕ) → InRange p
+      → ((length sheet ≡ p .depth * p .n) × (length scratch ≡ p .depth * p .n) × (length out ≡ p .depth * messageLength p) → ⊥)
+      → ReadRefused p sheet scratch out 2
+  pub write-1 : (m cells : List ℕ) → (InRange p → ⊥) → WriteRefused p m cells 1
+  pub write-2 : (m cells : List ℕ) → InRange p → ((length m ≡ p .depth * messageLength p) × (length cells ≡ p .depth * p .n) → ⊥) → WriteRefused p m cells 2

@@ -1,6 +1,6 @@
 // The sheet of document 01: D interleaved blocks, written from a payload and read back with every block corrected.
 ghost use mathlib.Core.Path.{_≡_};
-ghost use Prim.Native.Nat.{ℕ, _+_, _*_, _-_, _≤_, _<_};
+ghost use Prim.Native.Nat.{_+_, _*_, _-_, _≤_, _<_};
 ghost use lib.ListN.{length, replicate};
 ghost use Rattle.block.specs.Profile.{InRange, messageLength};
 ghost use Rattle.block.specs.Block.{encode};
@@ -200,10 +200,10 @@ fn correct_blocks(p: Profile, sheet: &[u8], scratch: &mut [u8]) -> Reading
     ensures { λ r. ⌜ CorrectedAll p (now (sheet .entry)) r (now (scratch .exit)) ⌝ }
 {
     let n = p.n;
-    let depth = p.depth;
+    let blocks = p.depth;
     let mut changed: usize = 0;
     let mut d: usize = 0;
-    while d < depth {
+    while d < blocks {
         let a = d * n;
         let v = correct_block(p, sheet, d, &mut scratch[a..a + n]);
         if !is_corrected(v) {

@@ -1,32 +1,35 @@
--- The invariant: i cells are out, and the register is moved down by i.
-use mathlib.Core.Path.{_≡_, refl}
-use Prim.Native.Nat.{_-_, _≤_}
+-- The invariant: i cells are out. Cell i of the register is cell i % 8 of word i / 8.
+use mathlib.Core.Path.{_≡_, refl, sym, _∙_}
+use mathlib.Core.List.{List}
+use Prim.Native.Nat.{ℕ, _-_, _≤_, _<_}
 use native.Mathlib.Omega.{arith}
-use lib.ListN.{length, take, drop, length-set}
-use Rattle.register.specs.Words.{cells}
-use Rattle.register.specs.Register.{padTo}
+use lib.ListN.{length, take, length-set}
+use Rattle.register.specs.Words.{cells, words, unpack}
 use Rattle.register.proofs.Cells.{cells-length}
-use Rattle.register.proofs.Moves.{lower-none, lower-more, out-more, out-all}
+use Rattle.register.proofs.Moves.{cell-of, out-more, out-all}
 use Rattle.register.proofs.low_cells.Statement.{statement}
 use Rattle.register.proofs.low_cells.Tie as tie
 
 abbrev Inv-loop : tie.InvT-loop
-Inv-loop out₀ rest₀ i₀ out rest i = (length out ≡ 64) × (i ≤ 64) × (cells rest ≡ padTo 64 (drop i (cells rest₀))) × (take i out ≡ take i (cells rest₀))
+Inv-loop w out₀ i₀ out i = (length out ≡ 64) × (i ≤ 64) × (take i out ≡ take i (unpack w))
 
 abbrev μ-loop : tie.MeasureT-loop
-μ-loop out₀ rest₀ i₀ out rest i = 64 - i
+μ-loop w out₀ i₀ out i = 64 - i
 
 loop-holds : tie.Need-loop-holds Inv-loop μ-loop
-loop-holds c = (refl, omega arith, lower-none _, refl)
+loop-holds c = (refl, omega arith, refl)
 
-lowest-requires : tie.Need-lowest-requires Inv-loop μ-loop
-lowest-requires c κs = tt
+mul-cell-at : tie.Need-mul-cell-at Inv-loop μ-loop
+mul-cell-at c = omega arith
+
+array-read-cell-at : tie.Need-array-read-cell-at Inv-loop μ-loop
+array-read-cell-at c = omega arith
+
+cell-at-requires : tie.Need-cell-at-requires Inv-loop μ-loop
+cell-at-requires c κs = omega arith
 
 array-write-out : tie.Need-array-write-out Inv-loop μ-loop
 array-write-out c = omega arith
-
-shift-down-requires : tie.Need-shift-down-requires Inv-loop μ-loop
-shift-down-requires c κs = tt
 
 add-i : tie.Need-add-i Inv-loop μ-loop
 add-i c = omega arith
@@ -36,15 +39,19 @@ loop-less c = omega arith
 
 loop-again : tie.Need-loop-again Inv-loop μ-loop
 loop-again c =
-    let l = c .before .before .before .loop in (
-      omega (arith, length-set (l .out) (l .i) (c .before .lowest .result)),
+    let l = c .before .before .loop in
+    let ws : List ℕ = words (c .before .before .before .args .x) in
+    let h : l .i < 64 = omega arith in (
+      omega (arith, length-set (l .out) (l .i) (c .cell-at .result)),
       omega arith,
-      lower-more _ _ _ (l .i) (cells-length _) (l .inv .2) (c .shift-down .ensures),
-      out-more _ _ (l .out) _ (l .i) (cells-length _) (omega arith) (l .inv .0) (l .inv .2) (l .inv .3) (c .before .lowest .ensures),
+      out-more (unpack ws) (l .out) (c .cell-at .result) (l .i) refl h (l .inv .0) (l .inv .2) (c .cell-at .ensures ∙ sym (cell-of ws (l .i) h)),
     )
 
 returns : tie.Need-returns Inv-loop μ-loop
-returns c = out-all _ _ (c .before .loop .i) (cells-length _) (c .before .loop .inv .0) (omega arith) (c .before .loop .inv .3)
+unfolding cells
+returns c =
+    out-all (cells (c .before .before .args .x)) _ (c .before .loop .i) (cells-length (c .before .before .args .x)) (c .before .loop .inv .0) (omega arith)
+    (c .before .loop .inv .2)
 
 pub low-cells-spec : {M : Type 1} → statement M
 low-cells-spec =
@@ -53,9 +60,10 @@ low-cells-spec =
     Inv-loop
     μ-loop
     loop-holds
-    lowest-requires
+    mul-cell-at
+    array-read-cell-at
+    cell-at-requires
     array-write-out
-    shift-down-requires
     add-i
     loop-less
     loop-again

@@ -1,65 +1,39 @@
--- The invariant: the sum is the multiple by the bits from `left` on.
-use mathlib.Core.Path.{_≡_, _∙_}
-use Prim.Native.Nat.{_/_, _^_, _≤_}
-use native.Mathlib.Omega.{arith}
-use Rattle.code.specs.Poly.{pscale}
-use Rattle.register.specs.Words.{cells}
-use Rattle.register.proofs.Bits.{scale-turn, scale-none, scale-all}
+-- Word by word, with the doubles made once.
+use Rattle.register.proofs.Cells.{cells-scaled}
 use Rattle.register.proofs.scale.Statement.{statement}
 use Rattle.register.proofs.scale.Tie as tie
 
-abbrev Inv-loop : tie.InvT-loop
-Inv-loop a x sum₀ left₀ sum left = (left ≤ 8) × (cells sum ≡ pscale (a / 2 ^ left) (cells x))
+doubles-of-requires : tie.Need-doubles-of-requires
+doubles-of-requires c κs = tt
 
-abbrev μ-loop : tie.MeasureT-loop
-μ-loop a x sum₀ left₀ sum left = left
+word-scale-requires : tie.Need-word-scale-requires
+word-scale-requires c κs = tt
 
-blank-requires : tie.Need-blank-requires Inv-loop μ-loop
-blank-requires c κs = tt
+word-scale-requires-2 : tie.Need-word-scale-requires-2
+word-scale-requires-2 c κs = tt
 
-loop-holds : tie.Need-loop-holds Inv-loop μ-loop
-loop-holds c = (omega arith, scale-none (c .before .args .a) (c .before .args .x) _ (omega arith) (c .blank .ensures))
+word-scale-requires-3 : tie.Need-word-scale-requires-3
+word-scale-requires-3 c κs = tt
 
-sub-left : tie.Need-sub-left Inv-loop μ-loop
-sub-left c = omega arith
+word-scale-requires-4 : tie.Need-word-scale-requires-4
+word-scale-requires-4 c κs = tt
 
-twice-requires : tie.Need-twice-requires Inv-loop μ-loop
-twice-requires c κs = tt
+word-scale-requires-5 : tie.Need-word-scale-requires-5
+word-scale-requires-5 c κs = tt
 
-bit-of-requires : tie.Need-bit-of-requires Inv-loop μ-loop
-bit-of-requires c κs = omega arith
+word-scale-requires-6 : tie.Need-word-scale-requires-6
+word-scale-requires-6 c κs = tt
 
-gated-requires : tie.Need-gated-requires Inv-loop μ-loop
-gated-requires c κs = omega (arith, c .bit-of .ensures)
+word-scale-requires-7 : tie.Need-word-scale-requires-7
+word-scale-requires-7 c κs = tt
 
-add-requires : tie.Need-add-requires Inv-loop μ-loop
-add-requires c κs = tt
+word-scale-requires-8 : tie.Need-word-scale-requires-8
+word-scale-requires-8 c κs = tt
 
-loop-less : tie.Need-loop-less Inv-loop μ-loop
-loop-less c = omega arith
-
-loop-again : tie.Need-loop-again Inv-loop μ-loop
-loop-again c = (omega arith, scale-turn (c .before .before .before .before .before .before .before .args .a) (c .before .before .before .before .before .loop .left) _ _ _ _ _ _ (omega arith) (omega arith) (c .before .before .before .before .before .loop .inv .1) (c .before .before .before .twice .ensures) (c .before .before .bit-of .ensures) (c .before .gated .ensures) (c .add .ensures))
-
-returns : tie.Need-returns Inv-loop μ-loop
+returns : tie.Need-returns
 returns c =
-    let l = c .before .loop in
-    let z : l .left ≡ 0 = omega arith in
-    (rw z at (l .inv .1)) ∙ scale-all (c .before .before .before .args .a) _
+    let d = c .before .before .before .before .before .before .before .before .doubles-of .ensures in
+    cells-scaled _ _ _ (c .before .before .before .before .before .before .before .word-scale .ensures _ d) (c .before .before .before .before .before .before .word-scale2 .ensures _ d) (c .before .before .before .before .before .word-scale3 .ensures _ d) (c .before .before .before .before .word-scale4 .ensures _ d) (c .before .before .before .word-scale5 .ensures _ d) (c .before .before .word-scale6 .ensures _ d) (c .before .word-scale7 .ensures _ d) (c .word-scale8 .ensures _ d)
 
 pub scale-spec : {M : Type 1} → statement M
-scale-spec =
-    tie.close
-    (tie.spec
-    Inv-loop
-    μ-loop
-    blank-requires
-    loop-holds
-    sub-left
-    twice-requires
-    bit-of-requires
-    gated-requires
-    add-requires
-    loop-less
-    loop-again
-    returns)
+scale-spec = tie.close (tie.spec doubles-of-requires word-scale-requires word-scale-requires-2 word-scale-requires-3 word-scale-requires-4 word-scale-requires-5 word-scale-requires-6 word-scale-requires-7 word-scale-requires-8 returns)

@@ -1,6 +1,6 @@
 -- The two cases of the run's length.
 use borrow.Author.Needs.{needs}
-use mathlib.Core.Path.{_≡_, sym, _∙_}
+use mathlib.Core.Path.{sym, _∙_}
 use Rattle.sheet.proofs.Steps.{changed-none, changed-some}
 use Rattle.sheet.proofs.changed_by.Statement.{statement}
 use Rattle.sheet.proofs.changed_by.Tie as tie

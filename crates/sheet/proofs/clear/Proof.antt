@@ -1,7 +1,7 @@
 -- The cells before i are zero and the others are as they were; at the end there are no others.
-use Prim.Native.Nat.{ℕ, _≤_, _-_}
+use Prim.Native.Nat.{_≤_, _-_}
 use native.Mathlib.Omega.{arith}
-use mathlib.Core.Path.{_≡_, refl, ap, _∙_}
+use mathlib.Core.Path.{_≡_, refl, _∙_}
 use mathlib.Core.List.{_++_, append-nil}
 use lib.ListN.{length, drop, replicate, length-set, drop-of-length-le}
 use borrow.Author.Fill.{fill-more}

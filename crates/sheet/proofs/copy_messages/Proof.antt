@@ -1,14 +1,14 @@
 -- The messages of the blocks before d stand in the payload and its other bytes are as they were; at the end there are no others.
-use Prim.Native.Nat.{ℕ, _+_, _*_, _-_, _≤_, _<_}
+use Prim.Native.Nat.{ℕ, _+_, _*_, _-_, _≤_}
 use native.Mathlib.Omega.{arith}
 use mathlib.Core.Path.{_≡_, refl, sym, ap, _∙_}
 use mathlib.Core.List.{_++_}
 use lib.ListN.{length, take, drop}
 use borrow.Rule.Slice.PartMut.{midOf, mid-len, same-len-mid}
+use Rattle.lists.proofs.Fill.{fill-all}
 use Rattle.block.specs.Profile.{messageLength}
 use Rattle.sheet.specs.Sheet.{joined}
 use Rattle.sheet.specs.Steps.{messageAt}
-use Rattle.sheet.proofs.Lists.{laid-over}
 use Rattle.sheet.proofs.Places.{part-inside, cells-inside}
 use Rattle.sheet.proofs.Apart.{rows-start, rows-more, rows-end}
 use Rattle.sheet.proofs.copy_messages.Statement.{statement}
@@ -121,7 +121,7 @@ loop-again c =
       same-len-mid (to i) (to i + k i - to i) (l .payload) ys kept ∙ l .inv .1,
       rows-more (k i) (l .d) (messageAt (a .p .n) (a .p .r) (k i) (a .blocks .now)) (a .payload .now) (l .payload) (l .inv .2) ys (omega (arith, to-inside i)) (kept ∙ part-long i)
           (c .before .before .copy .ensures .1
-          ∙ laid-over (midOf (from i) (from i + k i - from i) (a .blocks .now)) (midOf (to i) (to i + k i - to i) (l .payload)) (part-long i ∙ sym (read-long i))
+          ∙ fill-all (length (midOf (from i) (from i + k i - from i) (a .blocks .now))) (midOf (from i) (from i + k i - from i) (a .blocks .now)) (midOf (to i) (to i + k i - to i) (l .payload)) (omega arith) (omega (arith, part-long i, read-long i))
           ∙ ap (λ (m : ℕ). take m (drop (from i) (a .blocks .now))) (from-span i)),
     )
 

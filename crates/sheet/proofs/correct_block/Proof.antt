@@ -1,19 +1,9 @@
 -- The n cells that are lent of the local array have room in its 255.
 use borrow.Author.Needs.{needs}
-use Prim.Native.Nat.{ℕ, _≤_}
-use mathlib.Core.Path.{_≡_, sym}
-use mathlib.Core.List.{List}
-use lib.ListN.{length, take, replicate}
-use lib.Seq.{length-take-le}
+use mathlib.Core.Path.{sym}
+use Rattle.sheet.proofs.Lists.{zeros, lent}
 use Rattle.sheet.proofs.correct_block.Statement.{statement}
 use Rattle.sheet.proofs.correct_block.Tie as tie
-
-zeros : List ℕ
-zeros = replicate 255 0
-
-lent : (n : ℕ) → n ≤ 255 → length (take n zeros) ≡ n
-unfolding zeros
-lent n h = length-take-le n zeros h
 
 array-borrow-prefix-word : tie.Need-array-borrow-prefix-word
 array-borrow-prefix-word c = search needs

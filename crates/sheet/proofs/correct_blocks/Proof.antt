@@ -1,33 +1,31 @@
 -- What is left to answer is what was to be answered, and the codewords of the blocks before d stand in the scratch. Each turn adds one
 -- block or ends with its refusal; when no block is left, all codewords stand there.
-use Prim.Native.Nat.{ℕ, _+_, _*_, _-_, _≤_, _<_}
+use Prim.Native.Nat.{ℕ, _+_, _*_, _-_, _≤_}
 use native.Mathlib.Omega.{arith}
-use mathlib.Core.Path.{_≡_, refl, sym, ap, _∙_}
-use mathlib.Core.Bool.{true, false}
-use mathlib.Core.List.{List, _++_}
-use lib.ListN.{length, getD, drop}
+use mathlib.Core.Path.{_≡_, refl, sym, _∙_}
+use mathlib.Core.Bool.{true}
+use mathlib.Core.List.{_++_}
+use lib.ListN.{length, drop}
 use borrow.Author.Tests.{not-true, not-false}
 use borrow.Rule.Slice.PartMut.{midOf, mid-len, same-len-mid}
-use Rattle.lists.proofs.Test.{true-false}
 use Rattle.code.specs.Poly.{Bytes}
-use Rattle.sheet.specs.Sheet.{joined, blockVerdict, codeword, isCorrected, changedAt, answerFrom, sheetAnswer}
-use Rattle.sheet.specs.Steps.{CorrectedInto, changedBy}
+use Rattle.sheet.specs.Sheet.{joined, codeword, isCorrected, answerFrom, sheetAnswer}
 use Rattle.sheet.proofs.Places.{part-inside}
 use Rattle.sheet.proofs.Apart.{rows-start, rows-more, rows-end}
-use Rattle.sheet.proofs.Steps.{bytes-of, changed-is, changed-small, turn-start, turn-on, turn-stop, turn-end}
+use Rattle.sheet.proofs.Steps.{bytes-of, changed-small, turn-start, turn-on, turn-stop, turn-end}
 use Rattle.sheet.proofs.correct_blocks.Statement.{statement}
 use Rattle.sheet.proofs.correct_blocks.Tie as tie
 
 abbrev Inv-loop : tie.InvT-loop
-Inv-loop p sheet scratch₀ n depth changed₀ d₀ scratch changed d =
-    (d ≤ depth)
+Inv-loop p sheet scratch₀ n blocks changed₀ d₀ scratch changed d =
+    (d ≤ blocks)
     × (length scratch ≡ length scratch₀)
     × (changed ≤ d)
     × (sheetAnswer p sheet ≡ answerFrom p sheet (p .depth - d) d changed)
     × (scratch ≡ joined d n (codeword p sheet) ++ drop (d * n) scratch₀)
 
 abbrev μ-loop : tie.MeasureT-loop
-μ-loop p sheet scratch₀ n depth changed₀ d₀ scratch changed d = depth - d
+μ-loop p sheet scratch₀ n blocks changed₀ d₀ scratch changed d = blocks - d
 
 -- the part of block d lies within the scratch, and has n cells
 module _ (c : tie.In-loop Inv-loop μ-loop) where

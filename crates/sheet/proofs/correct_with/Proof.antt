@@ -1,9 +1,7 @@
 -- The gathered cells are those of block d, and the block's entry, with profile and lengths right, answers by its verdict.
 use borrow.Author.Needs.{needs}
-use native.Mathlib.Omega.{arith}
 use Prim.Native.Nat.{ℕ, _*_}
-use mathlib.Core.Path.{_≡_, sym, ap, _∙_}
-use lib.ListN.{length}
+use mathlib.Core.Path.{sym, ap, _∙_}
 use Rattle.sheet.proofs.Steps.{corrected-into}
 use Rattle.sheet.proofs.correct_with.Statement.{statement}
 use Rattle.sheet.proofs.correct_with.Tie as tie

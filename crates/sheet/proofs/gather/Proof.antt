@@ -1,19 +1,20 @@
 -- The cells before i are those of the block and the others are as they were; at the end there are no others.
-use Prim.Native.Nat.{ℕ, _+_, _*_, _≤_, _-_}
+use Prim.Native.Nat.{_+_, _*_, _≤_, _<_, _-_}
 use native.Mathlib.Nat.{suc-mul}
 use native.Mathlib.Numerals.{add-one}
 use native.Mathlib.Omega.{arith}
-use mathlib.Core.Path.{_≡_, refl, _∙_}
-use mathlib.Core.List.{_++_, append-nil}
-use lib.ListN.{length, getD, drop, length-set, drop-of-length-le}
-use Rattle.sheet.specs.Sheet.{tab, blockOf}
-use Rattle.sheet.proofs.Lists.{tab-more}
+use mathlib.Core.Path.{_≡_, refl, sym, _∙_}
+use mathlib.Core.List.{_++_}
+use lib.ListN.{length, take, drop, length-set}
+use Rattle.lists.proofs.Fill.{fill-more, fill-all}
+use Rattle.sheet.specs.Sheet.{blockOf}
+use Rattle.sheet.proofs.Apart.{block-length, block-cell}
 use Rattle.sheet.proofs.Places.{cell-inside}
 use Rattle.sheet.proofs.gather.Statement.{statement}
 use Rattle.sheet.proofs.gather.Tie as tie
 
 abbrev Inv-loop : tie.InvT-loop
-Inv-loop sheet d depth out₀ at₀ i₀ out at i = (i ≤ length out₀) × (length out ≡ length out₀) × (at ≡ i * depth + d) × (out ≡ tab i (λ (k : ℕ). getD sheet (k * depth + d) 0) ++ drop i out₀)
+Inv-loop sheet d depth out₀ at₀ i₀ out at i = (i ≤ length out₀) × (length out ≡ length out₀) × (at ≡ i * depth + d) × (out ≡ take i (blockOf depth (length out₀) sheet d) ++ drop i out₀)
 
 abbrev μ-loop : tie.MeasureT-loop
 μ-loop sheet d depth out₀ at₀ i₀ out at i = length out₀ - i
@@ -49,18 +50,23 @@ loop-again c =
     let l = c .before .before .loop in
     let a = c .before .before .before .args in
     let s : (l .i + 1) * a .depth ≡ l .i * a .depth + a .depth = rw (add-one, suc-mul) in
-    (omega arith, simp length-set (l .inv .1), omega (arith, l .inv .2, s), rw (l .inv .3, l .inv .2) (tab-more (l .i) (λ (k : ℕ). getD (a .sheet .now) (k * a .depth + a .d) 0) (a .out .now) (omega arith)))
+    let h : l .i < length (a .out .now) = omega arith in
+    let w = blockOf (a .depth) (length (a .out .now)) (a .sheet .now) (a .d) in
+    let e = block-length (a .depth) (length (a .out .now)) (a .sheet .now) (a .d) in (
+      omega arith,
+      simp length-set (l .inv .1),
+      omega (arith, l .inv .2, s),
+      rw (l .inv .3, l .inv .2, sym (block-cell (a .depth) (length (a .out .now)) (a .sheet .now) (a .d) (l .i) h)) (fill-more (l .i) w (a .out .now) 0 h (omega (arith, e))),
+    )
 
 same-length : tie.Need-same-length Inv-loop μ-loop
 same-length c = omega arith
 
 returns : tie.Need-returns Inv-loop μ-loop
-unfolding blockOf
 returns c =
     let l = c .before .loop in
-    let e : l .i ≡ length (c .before .before .args .out .now) = omega arith in
-    let h : length (c .before .before .args .out .now) ≤ l .i = omega arith in
-    l .inv .3 ∙ rw (drop-of-length-le _ h, e) (append-nil _)
+    let a = c .before .before .args in
+    l .inv .3 ∙ fill-all (l .i) (blockOf (a .depth) (length (a .out .now)) (a .sheet .now) (a .d)) (a .out .now) (omega (arith, block-length (a .depth) (length (a .out .now)) (a .sheet .now) (a .d))) (omega arith)
 
 pub gather-spec : {M : Type 1} → statement M
 gather-spec =

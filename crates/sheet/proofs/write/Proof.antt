@@ -4,7 +4,7 @@ use mathlib.Core.Path.{_≡_, sym, _∙_}
 use mathlib.Core.Bool.{true}
 use lib.ListN.{length}
 use borrow.Author.Tests.{not-true, not-false}
-use Rattle.block.specs.Profile.{InRange, inRange}
+use Rattle.block.specs.Profile.{inRange}
 use Rattle.block.proofs.Ranges.{in-range}
 use Rattle.sheet.specs.Sheet.{writeFits}
 use Rattle.sheet.proofs.Entry.{write-lengths, write-bad, write-wrong, write-done}

@@ -1,10 +1,9 @@
 -- The blocks before d stand in the sheet; each turn lays one more and touches no other, and at the end all stand there.
-use Prim.Native.Nat.{ℕ, _+_, _*_, _-_, _≤_, _<_}
+use Prim.Native.Nat.{ℕ, _+_, _*_, _-_, _≤_}
 use native.Mathlib.Omega.{arith}
 use mathlib.Core.Path.{_≡_, refl, sym, ap, _∙_}
-use mathlib.Core.List.{List}
 use lib.ListN.{length, take, drop}
-use borrow.Rule.Slice.PartMut.{midOf, mid-len}
+use borrow.Rule.Slice.PartMut.{mid-len}
 use Rattle.block.specs.Profile.{messageLength}
 use Rattle.sheet.specs.Sheet.{messageOf}
 use Rattle.sheet.proofs.Places.{part-inside}

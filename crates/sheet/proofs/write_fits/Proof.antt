@@ -1,8 +1,6 @@
 -- The lengths are compared in the order of the definition; no product overflows, for a profile's numbers are small.
 use borrow.Author.Needs.{needs}
-use Prim.Native.Nat.{ℕ, _*_}
 use native.Mathlib.Omega.{arith}
-use mathlib.Core.Path.{_≡_, ap, _∙_}
 use Rattle.sheet.proofs.Entry.{cells-small, bytes-small, write-payload, write-sheet}
 use Rattle.sheet.proofs.write_fits.Statement.{statement}
 use Rattle.sheet.proofs.write_fits.Tie as tie

@@ -1,12 +1,9 @@
 -- The block's entry, with profile and lengths right, writes the block, and its cells are laid.
 use borrow.Author.Needs.{needs}
-use native.Mathlib.Omega.{arith}
 use Prim.Native.Nat.{ℕ, _*_}
 use mathlib.Core.Path.{_≡_, sym, ap, _∙_}
-use mathlib.Core.List.{List}
 use lib.ListN.{length}
 use Rattle.block.specs.Block.{encode}
-use Rattle.sheet.specs.Steps.{Laid}
 use Rattle.sheet.proofs.Blocks.{block-written}
 use Rattle.sheet.proofs.write_with.Statement.{statement}
 use Rattle.sheet.proofs.write_with.Tie as tie

@@ -11,8 +11,11 @@ const UNTOUCHED: u8 = 170;
 /// A read block with its profile and the length of the second buffer.
 type Input = (Profile, Vec<u8>, usize);
 
-/// n, r and b of the random vectors.
-const SIZES: [(usize, usize, usize); 12] = [
+/// n, r and b.
+type Size = (usize, usize, usize);
+
+/// The sizes of the random vectors.
+const SIZES: [Size; 12] = [
     (3, 2, 0),
     (3, 2, 254),
     (5, 4, 1),
@@ -27,7 +30,7 @@ const SIZES: [(usize, usize, usize); 12] = [
     (255, 64, 254),
 ];
 
-fn profile((n, r, b): (usize, usize, usize), limit: usize, depth: usize) -> Profile {
+fn profile((n, r, b): Size, limit: usize, depth: usize) -> Profile {
     Profile { n, r, b, limit, depth }
 }
 
@@ -61,7 +64,7 @@ fn example_inputs() -> Vec<Input> {
 }
 
 /// For one size: clean, runs at the first and the last cells, longer than promised, longer than L, noise.
-fn damaged_inputs(size: (usize, usize, usize), random: &mut Random) -> Vec<Input> {
+fn damaged_inputs(size: Size, random: &mut Random) -> Vec<Input> {
     let (n, r, _) = size;
     let (h, depth) = (r / 2, random.between(1, 16));
     let long = random.between(h, r - 1);
@@ -136,10 +139,10 @@ fn ambiguous_inputs(random: &mut Random) -> Vec<Input> {
     inputs
 }
 
-fn inputs() -> Vec<Input> {
+fn inputs(sizes: &[Size]) -> Vec<Input> {
     let mut random = Random::new(101);
     let mut inputs = example_inputs();
-    for size in SIZES {
+    for &size in sizes {
         inputs.extend(damaged_inputs(size, &mut random));
     }
     inputs.extend(wrapped_inputs(&mut random));
@@ -148,7 +151,7 @@ fn inputs() -> Vec<Input> {
 }
 
 pub fn corrections() -> Vec<Vector> {
-    inputs().into_iter().map(correction).collect()
+    inputs(&SIZES).into_iter().map(correction).collect()
 }
 
 fn correction((profile, read, length): Input) -> Vector {
@@ -167,28 +170,34 @@ fn correction((profile, read, length): Input) -> Vector {
 
 /// The codeword test on the same blocks.
 pub fn checks() -> Vec<Vector> {
-    let vector = |(profile, read, _): Input| {
-        let numbers = match block::is_codeword(&profile, &read) {
-            Ok(clean) => [0, usize::from(clean)],
-            Err(refusal) => [refusal.number.into(), 0],
-        };
-        let mut fields = profile_fields(&profile);
-        fields.push(Field::Bytes(read));
-        Vector {
-            fields,
-            answer: numbers.into(),
-        }
+    inputs(&SIZES).into_iter().map(check).collect()
+}
+
+fn check((profile, read, _): Input) -> Vector {
+    let numbers = match block::is_codeword(&profile, &read) {
+        Ok(clean) => [0, usize::from(clean)],
+        Err(refusal) => [refusal.number.into(), 0],
     };
-    inputs().into_iter().map(vector).collect()
+    let mut fields = profile_fields(&profile);
+    fields.push(Field::Bytes(read));
+    Vector {
+        fields,
+        answer: numbers.into(),
+    }
 }
 
 pub fn writes() -> Vec<Vector> {
+    messages(&SIZES).into_iter().map(write).collect()
+}
+
+/// Document 01's messages, random ones, profiles out of range, and wrong lengths.
+fn messages(sizes: &[Size]) -> Vec<Input> {
     let mut random = Random::new(102);
     let mut inputs: Vec<Input> = Vec::new();
     for (profile, message, cells) in cases::written_blocks() {
         inputs.push((profile, message, cells.len()));
     }
-    for size in SIZES {
+    for &size in sizes {
         let profile = profile(size, 0, random.between(1, 16));
         inputs.push((profile, random.bytes(profile.k()), profile.n));
         let mut unit = vec![0; profile.k()];
@@ -203,7 +212,7 @@ pub fn writes() -> Vec<Vector> {
     for (first, second) in [(0, 4), (2, 4), (1, 3), (1, 5), (1, 0)] {
         inputs.push((profile((4, 3, 0), 2, 1), vec![8; first], second));
     }
-    inputs.into_iter().map(write).collect()
+    inputs
 }
 
 fn write((profile, message, length): Input) -> Vector {
@@ -216,6 +225,23 @@ fn write((profile, message, length): Input) -> Vector {
         fields,
         answer: answer(&[number], &[&cells]),
     }
+}
+
+/// All three operations in one stream, at every second size. The checks are of the examples and of the largest size.
+pub fn operations() -> Vec<Vector> {
+    let sizes: Vec<Size> = SIZES.into_iter().skip(1).step_by(2).collect();
+    let mut checked = example_inputs();
+    checked.extend(damaged_inputs(sizes[sizes.len() - 1], &mut Random::new(103)));
+    let corrections = inputs(&sizes).into_iter().map(|input| (0, correction(input)));
+    let writes = messages(&sizes).into_iter().map(|input| (1, write(input)));
+    let checks = checked.into_iter().map(|input| (2, check(input)));
+    corrections.chain(writes).chain(checks).map(marked).collect()
+}
+
+/// A vector after the byte of its operation.
+fn marked((operation, mut vector): (u8, Vector)) -> Vector {
+    vector.fields.insert(0, Field::Byte(operation));
+    vector
 }
 
 pub fn generators() -> Vec<Vector> {

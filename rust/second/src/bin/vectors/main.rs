@@ -16,6 +16,8 @@
 //! writes      profile, buffer message, word length of the     number; the block buffer's bytes at exit
 //!             block buffer (each byte 170 at entry)
 //! checks      profile, buffer read block                      number; 1 if a codeword, else 0
+//! block       byte 0, then as blocks; byte 1, then as         as there
+//!             writes; byte 2, then as checks
 //! sheets      byte 0, profile, buffer payload, buffer sheet   number; place (0 if accepted); the sheet's bytes at exit
 //!             byte 1, profile, buffer sheet, buffer scratch,  number; blocks changed or place; the scratch's bytes
 //!             buffer payload                                  at exit; the payload's bytes at exit
@@ -40,6 +42,7 @@ fn vectors(kind: &str) -> Option<Vec<Vector>> {
         "blocks" => Some(blocks::corrections()),
         "writes" => Some(blocks::writes()),
         "checks" => Some(blocks::checks()),
+        "block" => Some(blocks::operations()),
         "sheets" => Some(sheets::sheets()),
         "plots" => Some(plots::plots()),
         "lists" => Some(sheets::lists()),
@@ -84,7 +87,7 @@ fn main() -> io::Result<()> {
     match output(&arguments)? {
         Some(bytes) => io::stdout().write_all(&bytes),
         None => {
-            eprintln!("vectors blocks|writes|checks|sheets|plots|lists|generators [--bytes|--answers]");
+            eprintln!("vectors blocks|writes|checks|block|sheets|plots|lists|generators [--bytes|--answers]");
             std::process::exit(2)
         }
     }
@@ -98,10 +101,11 @@ mod tests {
     /// Each kind has an accepted vector and one for each refusal that its entries can give.
     #[test]
     fn every_number_occurs() {
-        let expected: [(&str, &[usize]); 5] = [
+        let expected: [(&str, &[usize]); 6] = [
             ("blocks", &[0, 1, 2, 3, 4]),
             ("writes", &[0, 1, 2]),
             ("checks", &[0, 1, 2]),
+            ("block", &[0, 1, 2, 3, 4]),
             ("sheets", &[0, 1, 2, 3, 4]),
             ("plots", &[0, 2, 5, 6, 7, 8, 9, 10]),
         ];

@@ -1,0 +1,31 @@
+-- What the sheet's promise gives back is the payload byte for byte, so every question on it has the same answer.
+use mathlib.Core.Path.{_≡_, ap, _∙_}
+use mathlib.Core.List.{List}
+use Prim.Native.Nat.{ℕ}
+use Rattle.sheet.specs.Sheet.{writtenSheet, readPayload}
+use Rattle.sheet.specs.Promise.{SheetPromise}
+use Rattle.sheet.proofs.Promise.{sheet-promise}
+use Rattle.plot.specs.Grammar.{reading}
+use Rattle.plot.specs.Answers.{located, asked}
+use Rattle.plot.specs.Sheets.{SameAnswers, WrittenReadsAsPlots, SameAfterDamage}
+
+same-answers : (written back : List ℕ) → back ≡ written → SameAnswers written back
+same-answers written back e = record { part = λ n. ap (asked n) e; companion = λ n. ap (located n) e }
+
+-- from the promise, whoever proves it
+module _ (promise : SheetPromise) where
+  reads-as-plots : WrittenReadsAsPlots
+  reads-as-plots p m ps end scratch out v h l e =
+      let r = promise p m v h .back scratch out l in
+      (r .0, ap reading (r .1) ∙ e)
+
+  same-after : SameAfterDamage
+  same-after p m sheet scratch out v half h d l =
+      let r = promise p m v h .damaged sheet half d scratch out l in
+      ((_, r .0), same-answers m (readPayload p sheet scratch out) (r .1))
+
+pub written-reads-as-plots : WrittenReadsAsPlots
+written-reads-as-plots = reads-as-plots sheet-promise
+
+pub same-after-damage : SameAfterDamage
+same-after-damage = same-after sheet-promise

@@ -1,0 +1,176 @@
+// Writes and reads the sheets of document 01 and prints what comes out, in decimal. The file stdout has the expected lines: the cells,
+// the payload and the numbers are those of document 01, "The plot lister" and "Bench sheet of examples".
+use block::Profile;
+use libc::STDOUT_FILENO;
+use sheet::Reading;
+use sheet::Refusal;
+
+fn print_number(n: usize) {
+    io::write_all(STDOUT_FILENO, b" ");
+    io::print_decimal(STDOUT_FILENO, n as u64);
+}
+
+fn print_bytes(bytes: &[u8]) {
+    let mut i: usize = 0;
+    while i < bytes.len() {
+        print_number(bytes[i] as usize);
+        i += 1;
+    }
+    io::write_all(STDOUT_FILENO, b"\n");
+}
+
+fn print_refusal(refusal: Refusal) {
+    io::write_all(STDOUT_FILENO, b"refused");
+    print_number(refusal.number());
+    print_number(refusal.place());
+    io::write_all(STDOUT_FILENO, b"\n");
+}
+
+fn print_answer(reading: Reading) {
+    match reading {
+        Reading::Refused(refusal) => print_refusal(refusal),
+        Reading::Accepted { changed } => {
+            io::write_all(STDOUT_FILENO, b"changed");
+            print_number(changed);
+            io::write_all(STDOUT_FILENO, b"\n");
+        }
+    }
+}
+
+// The answer, and what stands in both buffers afterwards.
+fn print_reading(reading: Reading, payload: &[u8], scratch: &[u8]) {
+    print_answer(reading);
+    io::write_all(STDOUT_FILENO, b"payload");
+    print_bytes(payload);
+    io::write_all(STDOUT_FILENO, b"scratch");
+    print_bytes(scratch);
+}
+
+// Payload 1 0 as two blocks of four cells.
+fn write_small() {
+    let p = Profile {
+        n: 4,
+        r: 3,
+        b: 0,
+        limit: 0,
+        depth: 2,
+    };
+    let mut cells = [0u8; 8];
+    let written = sheet::write(p, &[1, 0], &mut cells);
+    io::write_all(STDOUT_FILENO, b"written");
+    print_number(block::written_number(written));
+    io::write_all(STDOUT_FILENO, b":");
+    print_bytes(&cells);
+}
+
+// Eight blocks of three cells.
+fn read_worked(cells: [u8; 24], limit: usize) {
+    let p = Profile {
+        n: 3,
+        r: 2,
+        b: 0,
+        limit,
+        depth: 8,
+    };
+    let mut scratch = [9u8; 24];
+    let mut payload = [9u8; 8];
+    let reading = sheet::read(p, &cells, &mut scratch, &mut payload);
+    print_reading(reading, &payload, &scratch);
+}
+
+// Two blocks of four cells: 8 14 7 1, and 8 14 0 0, which is refused.
+fn read_small(limit: usize) {
+    let p = Profile {
+        n: 4,
+        r: 3,
+        b: 0,
+        limit,
+        depth: 2,
+    };
+    let cells = [8u8, 8, 14, 14, 7, 0, 1, 0];
+    let mut scratch = [9u8; 8];
+    let mut payload = [9u8; 2];
+    let reading = sheet::read(p, &cells, &mut scratch, &mut payload);
+    print_reading(reading, &payload, &scratch);
+}
+
+// The first of them alone: too short a sheet for two blocks.
+fn read_short() {
+    let p = Profile {
+        n: 4,
+        r: 3,
+        b: 0,
+        limit: 0,
+        depth: 2,
+    };
+    let mut scratch = [9u8; 8];
+    let mut payload = [9u8; 2];
+    let reading = sheet::read(p, &[8, 14, 7, 1], &mut scratch, &mut payload);
+    print_reading(reading, &payload, &scratch);
+}
+
+fn main() {
+    write_small();
+    read_worked(
+        [
+            160,
+            152,
+            14,
+            0,
+            2,
+            6,
+            64,
+            4,
+            240,
+            212,
+            9,
+            0,
+            3,
+            5,
+            96,
+            6,
+            80,
+            76,
+            7,
+            0,
+            1,
+            3,
+            32,
+            2,
+        ],
+        1,
+    );
+    read_worked(
+        [
+            0,
+            0,
+            0,
+            0,
+            0,
+            0,
+            0,
+            0,
+            240,
+            212,
+            9,
+            0,
+            3,
+            5,
+            96,
+            6,
+            80,
+            76,
+            7,
+            0,
+            1,
+            3,
+            32,
+            2,
+        ],
+        1,
+    );
+    read_small(1);
+    read_small(2);
+    read_small(3);
+    read_short();
+}
