@@ -49,7 +49,7 @@ int main(void) {
     read_back(sheet);
     memset(sheet + 10, 255, D * (R / 2)); /* a scratch of D * h cells */
     read_back(sheet);
-    memset(sheet + 40, 255, D * N - 40); /* one more, too much */
+    memset(sheet + 40, 255, D * N - 40); /* a second scratch */
     read_back(sheet);
     return 0;
 }

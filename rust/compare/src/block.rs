@@ -1,6 +1,6 @@
 //! Entries on a block.
 
-use crate::{expected, numbers, profile, wrapped, Answer};
+use crate::{numbers, outcome, profile, Answer};
 use second::random::Random;
 use second::{block, Profile, Run};
 use tishwabe::ffi;
@@ -9,7 +9,7 @@ use tishwabe::ffi;
 pub fn write(random: &mut Random, p: &Profile, message: &[u8], length: usize) -> (Answer, Vec<u8>) {
     let mut cells = random.bytes(length);
     let mut due = cells.clone();
-    let answer = expected(block::write(p, message, &mut due), |()| (0, 0));
+    let answer = outcome(block::write(p, message, &mut due), |()| (0, 0));
     let before = cells.clone();
     assert_eq!(
         (ffi::write_block(numbers(p), message, &mut cells), &cells),
@@ -18,7 +18,7 @@ pub fn write(random: &mut Random, p: &Profile, message: &[u8], length: usize) ->
     );
     if let Some(made) = profile(p) {
         cells = before;
-        assert_eq!(wrapped(made.write_block(message, &mut cells), |()| (0, 0)), answer);
+        assert_eq!(outcome(made.write_block(message, &mut cells), |()| (0, 0)), answer);
         assert_eq!(cells, due);
     }
     (answer, cells)
@@ -26,14 +26,14 @@ pub fn write(random: &mut Random, p: &Profile, message: &[u8], length: usize) ->
 
 /// Checks a block with both.
 pub fn check(p: &Profile, read: &[u8]) -> Answer {
-    let answer = expected(block::is_codeword(p, read), |clean| (clean.into(), 0));
+    let answer = outcome(block::is_codeword(p, read), |clean| (clean.into(), 0));
     assert_eq!(
         ffi::check_block(numbers(p), read),
         (answer.0, answer.2),
         "{p:?} {read:?}"
     );
     if let Some(made) = profile(p) {
-        assert_eq!(wrapped(made.is_codeword(read), |clean| (clean.into(), 0)), answer);
+        assert_eq!(outcome(made.is_codeword(read), |clean| (clean.into(), 0)), answer);
     }
     answer
 }
@@ -42,7 +42,7 @@ pub fn check(p: &Profile, read: &[u8]) -> Answer {
 pub fn correct(random: &mut Random, p: &Profile, read: &[u8], length: usize) -> Answer {
     let mut out = random.bytes(length);
     let (mut due, before) = (out.clone(), out.clone());
-    let answer = expected(block::correct(p, read, &mut due), |Run { start, length }| {
+    let answer = outcome(block::correct(p, read, &mut due), |Run { start, length }| {
         (start, length)
     });
     let found = ffi::correct_block(numbers(p), read, &mut out);
@@ -50,7 +50,7 @@ pub fn correct(random: &mut Random, p: &Profile, read: &[u8], length: usize) -> 
     if let Some(made) = profile(p) {
         out = before;
         let result = made.correct_block(read, &mut out);
-        assert_eq!(wrapped(result, |run| (run.start, run.length)), answer);
+        assert_eq!(outcome(result, |run| (run.start, run.length)), answer);
         assert_eq!(out, due);
     }
     answer

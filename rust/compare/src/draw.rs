@@ -161,7 +161,8 @@ pub fn good_payload(random: &mut Random) -> Vec<u8> {
         let most = [3, 3, 3, 40][random.between(0, 3)];
         payload.extend(plot::record(number as u16, &lines(random, most)));
     }
-    payload.resize(payload.len() + random.between(0, 12), 0);
+    let most = [12, 60, 200][random.between(0, 2)];
+    payload.resize(payload.len() + random.between(0, most), 0);
     payload
 }
 
@@ -169,7 +170,7 @@ pub fn good_payload(random: &mut Random) -> Vec<u8> {
 pub fn payload(random: &mut Random) -> Vec<u8> {
     let mut payload = good_payload(random);
     match random.between(0, 9) {
-        0 | 1 | 2 if !payload.is_empty() => {
+        0..=2 if !payload.is_empty() => {
             let place = random.between(0, payload.len() - 1);
             payload[place] = [random.byte(), 0, 0x50, 1][random.between(0, 3)];
         }

@@ -7,37 +7,44 @@ pub mod plot;
 pub mod sheet;
 pub mod work;
 
-use second::Refusal;
-
 /// Number, place and two values of an answer. What an answer does not have is 0.
 pub type Answer = (usize, usize, usize, usize);
 
-/// The second decoder's answer, from its two values where it accepts.
-pub fn expected<T>(result: Result<T, Refusal>, values: impl Fn(T) -> (usize, usize)) -> Answer {
-    match result {
-        Ok(value) => {
-            let (first, second) = values(value);
-            (0, 0, first, second)
-        }
-        Err(refusal) => (refusal.number.into(), refusal.place, 0, 0),
+/// A refusal of either.
+pub trait Refused {
+    fn number_and_place(&self) -> (usize, usize);
+}
+
+impl Refused for second::Refusal {
+    fn number_and_place(&self) -> (usize, usize) {
+        (self.number.into(), self.place)
     }
 }
 
-/// The answer of the Rust wrapper.
-pub fn wrapped<T>(result: Result<T, tishwabe::Error>, values: impl Fn(T) -> (usize, usize)) -> Answer {
+impl Refused for tishwabe::Error {
+    fn number_and_place(&self) -> (usize, usize) {
+        (self.number().into(), self.place())
+    }
+}
+
+/// A result as its numbers, the two values from what is accepted.
+pub fn outcome<T>(result: Result<T, impl Refused>, values: impl Fn(T) -> (usize, usize)) -> Answer {
     match result {
         Ok(value) => {
             let (first, second) = values(value);
             (0, 0, first, second)
         }
-        Err(error) => (error.number().into(), error.place(), 0, 0),
+        Err(refusal) => {
+            let (number, place) = refusal.number_and_place();
+            (number, place, 0, 0)
+        }
     }
 }
 
 /// The wrapper's profile with these numbers, which both refuse or both accept.
 pub fn profile(p: &second::Profile) -> Option<tishwabe::Profile> {
     let result = tishwabe::Profile::new(p.n, p.r, p.b, p.limit, p.depth);
-    assert_eq!(wrapped(result, |_| (0, 0)), expected(p.check(), |()| (0, 0)), "{p:?}");
+    assert_eq!(outcome(result, |_| (0, 0)), outcome(p.check(), |()| (0, 0)), "{p:?}");
     let made = result.ok()?;
     assert_eq!((made.k(), made.h()), (p.k(), p.h()), "{p:?}");
     Some(made)

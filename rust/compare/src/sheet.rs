@@ -1,6 +1,6 @@
 //! Entries on a sheet.
 
-use crate::{expected, numbers, profile, wrapped, Answer};
+use crate::{numbers, outcome, profile, Answer};
 use second::random::Random;
 use second::{sheet, Profile};
 use tishwabe::ffi;
@@ -9,7 +9,7 @@ use tishwabe::ffi;
 pub fn write(random: &mut Random, p: &Profile, payload: &[u8], length: usize) -> (Answer, Vec<u8>) {
     let mut cells = random.bytes(length);
     let (mut due, before) = (cells.clone(), cells.clone());
-    let answer = expected(sheet::write(p, payload, &mut due), |()| (0, 0));
+    let answer = outcome(sheet::write(p, payload, &mut due), |()| (0, 0));
     assert_eq!(
         (ffi::write_sheet(numbers(p), payload, &mut cells), &cells),
         (answer.0, &due),
@@ -17,7 +17,7 @@ pub fn write(random: &mut Random, p: &Profile, payload: &[u8], length: usize) ->
     );
     if let Some(made) = profile(p) {
         cells = before;
-        assert_eq!(wrapped(made.write_sheet(payload, &mut cells), |()| (0, 0)), answer);
+        assert_eq!(outcome(made.write_sheet(payload, &mut cells), |()| (0, 0)), answer);
         assert_eq!(cells, due);
     }
     (answer, cells)
@@ -28,14 +28,14 @@ pub fn read(random: &mut Random, p: &Profile, cells: &[u8], lengths: (usize, usi
     let (mut scratch, mut payload) = (random.bytes(lengths.0), random.bytes(lengths.1));
     let before = (scratch.clone(), payload.clone());
     let mut due = before.clone();
-    let answer = expected(sheet::read(p, cells, &mut due.0, &mut due.1), |changed| (changed, 0));
+    let answer = outcome(sheet::read(p, cells, &mut due.0, &mut due.1), |changed| (changed, 0));
     let found = ffi::read_sheet(numbers(p), cells, &mut scratch, &mut payload);
     assert_eq!(found, (answer.0, answer.2, answer.1), "{p:?} {cells:?}");
     assert_eq!((&scratch, &payload), (&due.0, &due.1), "{p:?} {cells:?}");
     if let Some(made) = profile(p) {
         (scratch, payload) = before;
         let result = made.read_sheet(cells, &mut scratch, &mut payload);
-        assert_eq!(wrapped(result, |changed| (changed, 0)), answer);
+        assert_eq!(outcome(result, |changed| (changed, 0)), answer);
         assert_eq!((scratch, payload), due);
     }
     (answer, due.1)

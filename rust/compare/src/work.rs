@@ -1,5 +1,6 @@
 //! Many seeds on all processors, and how often each answer came up.
 
+use second::random::Random;
 use std::collections::BTreeMap;
 use std::io::Write;
 use std::sync::atomic::{AtomicU64, Ordering};
@@ -48,6 +49,11 @@ pub fn called(number: usize) -> &'static str {
     ][number]
 }
 
+/// The numbers that a seed gives; the product spreads neighbouring seeds apart.
+fn numbers_of(seed: u64) -> Random {
+    Random::new(seed.wrapping_mul(0x9E37_79B9_7F4A_7C15))
+}
+
 /// Names the seed when its work panics.
 struct Seed(u64);
 
@@ -60,7 +66,7 @@ impl Drop for Seed {
 }
 
 /// Runs the work for the seeds 1 to `seeds`, and prints what came up.
-pub fn run(title: &str, seeds: u64, work: impl Fn(u64, &mut Tally) + Sync) -> Tally {
+pub fn run(title: &str, seeds: u64, work: impl Fn(u64, &mut Random, &mut Tally) + Sync) -> Tally {
     let next = AtomicU64::new(1);
     let turns = || {
         let mut tally = Tally::default();
@@ -69,7 +75,7 @@ pub fn run(title: &str, seeds: u64, work: impl Fn(u64, &mut Tally) + Sync) -> Ta
             if seed.0 > seeds {
                 return tally;
             }
-            work(seed.0, &mut tally);
+            work(seed.0, &mut numbers_of(seed.0), &mut tally);
         }
     };
     let threads = thread::available_parallelism().map_or(1, |count| count.get());

@@ -22,10 +22,9 @@ fn damaged_blocks(random: &mut Random, size: Size, tally: &mut Tally) {
 }
 
 fn compare_blocks(title: &str, seeds: u64, size: Size) -> Tally {
-    run(title, seeds, |seed, tally| {
-        let mut random = Random::new(seed);
+    run(title, seeds, |_, random, tally| {
         for _ in 0..10 {
-            damaged_blocks(&mut random, size, tally);
+            damaged_blocks(random, size, tally);
         }
     })
 }
@@ -61,15 +60,14 @@ fn every_difference_from_a_codeword() {
         limit: 1,
         depth: 1,
     });
-    let tally = run("every difference", 256, |seed, tally| {
-        let mut random = Random::new(seed);
+    let tally = run("every difference", 256, |seed, random, tally| {
         for p in &profiles {
             for second_cell in 0..=255 {
                 let message = random.bytes(p.k());
-                let (_, mut read) = write(&mut random, p, &message, p.n);
+                let (_, mut read) = write(random, p, &message, p.n);
                 read[0] ^= (seed - 1) as u8;
                 read[1] ^= second_cell;
-                let answer = correct(&mut random, p, &read, p.n);
+                let answer = correct(random, p, &read, p.n);
                 tally.count("blocks");
                 tally.count(called(answer.0));
             }
@@ -130,12 +128,11 @@ fn bad_length(random: &mut Random, p: &Profile, tally: &mut Tally) {
 
 #[test]
 fn profiles_and_lengths_are_refused() {
-    run("refused blocks", 2_000, |seed, tally| {
-        let mut random = Random::new(seed);
-        let p = draw::profile_out_of_range(&mut random);
-        bad_profile(&mut random, &p, tally);
-        let p = draw::profile(&mut random, LARGE);
-        bad_length(&mut random, &p, tally);
+    run("refused blocks", 2_000, |_, random, tally| {
+        let p = draw::profile_out_of_range(random);
+        bad_profile(random, &p, tally);
+        let p = draw::profile(random, LARGE);
+        bad_length(random, &p, tally);
     });
     let mut random = Random::new(1);
     for p in cases::profiles_out_of_range() {

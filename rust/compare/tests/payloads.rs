@@ -59,10 +59,9 @@ fn one_payload(random: &mut Random, tally: &mut Tally) {
 
 #[test]
 fn random_payloads() {
-    let tally = run("payloads", 400, |seed, tally| {
-        let mut random = Random::new(seed);
+    let tally = run("payloads", 400, |_, random, tally| {
         for _ in 0..100 {
-            one_payload(&mut random, tally);
+            one_payload(random, tally);
         }
     });
     let payload = ["wrong frame", "bad mark", "cut short", "bad tally", "plot order"];

@@ -28,26 +28,24 @@ fn read_back(random: &mut Random, p: &Profile, cells: &[u8], payload: &[u8], tal
 
 #[test]
 fn within_the_promise() {
-    let tally = run("within the promise", 1_500, |seed, tally| {
-        let mut random = Random::new(seed);
-        let mut p = draw::profile(&mut random, SIZE);
+    let tally = run("within the promise", 1_500, |_, random, tally| {
+        let mut p = draw::profile(random, SIZE);
         p.limit = random.between(p.h(), p.r - 1);
         let payload = random.bytes(p.depth * p.k());
-        let cells = scratched(&mut random, &p, &payload, 0, p.depth * p.h());
-        assert!(read_back(&mut random, &p, &cells, &payload, tally));
+        let cells = scratched(random, &p, &payload, 0, p.depth * p.h());
+        assert!(read_back(random, &p, &cells, &payload, tally));
     });
     assert_eq!(tally.of("accepted"), tally.of("sheets"));
 }
 
 #[test]
 fn beyond_the_promise() {
-    let tally = run("beyond the promise", 2_000, |seed, tally| {
-        let mut random = Random::new(seed);
-        let p = draw::profile(&mut random, SIZE);
+    let tally = run("beyond the promise", 2_000, |_, random, tally| {
+        let p = draw::profile(random, SIZE);
         let payload = random.bytes(p.depth * p.k());
         let (least, most) = (p.depth * p.h() + 1, p.depth * p.n);
-        let cells = scratched(&mut random, &p, &payload, least, most.min(least + p.depth * 2));
-        if read_back(&mut random, &p, &cells, &payload, tally) {
+        let cells = scratched(random, &p, &payload, least, most.min(least + p.depth * 2));
+        if read_back(random, &p, &cells, &payload, tally) {
             tally.count("payload back");
         }
     });
@@ -57,20 +55,19 @@ fn beyond_the_promise() {
 /// Some blocks of the sheet changed, each in its own way: the lowest that is refused is named.
 #[test]
 fn blocks_damaged_one_by_one() {
-    let tally = run("blocks damaged", 1_500, |seed, tally| {
-        let mut random = Random::new(seed);
-        let p = draw::profile(&mut random, draw::SMALL);
+    let tally = run("blocks damaged", 1_500, |_, random, tally| {
+        let p = draw::profile(random, draw::SMALL);
         let payload = random.bytes(p.depth * p.k());
-        let (_, mut cells) = write(&mut random, &p, &payload, p.depth * p.n);
+        let (_, mut cells) = write(random, &p, &payload, p.depth * p.n);
         for d in 0..p.depth {
             let block: Vec<u8> = cells.iter().skip(d).step_by(p.depth).copied().collect();
             let damage = draw::DAMAGES[[0, 0, 0, 0, 1, 1, 3, 4][random.between(0, 7)]];
-            let changed = draw::damaged(&mut random, &p, &block, damage);
+            let changed = draw::damaged(random, &p, &block, damage);
             for (i, cell) in changed.into_iter().enumerate() {
                 cells[i * p.depth + d] = cell;
             }
         }
-        read_back(&mut random, &p, &cells, &payload, tally);
+        read_back(random, &p, &cells, &payload, tally);
     });
     for kind in ["accepted", "torn", "tied"] {
         assert!(tally.of(kind) > 50, "{kind}");
@@ -86,21 +83,20 @@ fn profiles_and_lengths_are_refused() {
         assert_eq!(write(random, p, &bytes, lengths.0).0, (1, 0, 0, 0));
         assert_eq!(read(random, p, &bytes, lengths).0, (1, 0, 0, 0));
     };
-    run("refused sheets", 1_000, |seed, tally| {
-        let mut random = Random::new(seed);
-        let p = draw::profile_out_of_range(&mut random);
-        bad(&mut random, &p);
+    run("refused sheets", 1_000, |_, random, tally| {
+        let p = draw::profile_out_of_range(random);
+        bad(random, &p);
         tally.count(called(1));
-        let p = draw::profile(&mut random, SIZE);
+        let p = draw::profile(random, SIZE);
         let due = [p.depth * p.n, p.depth * p.n, p.depth * p.k()];
-        let wrong = due.map(|length| draw::wrong_length(&mut random, length));
+        let wrong = due.map(|length| draw::wrong_length(random, length));
         for mask in 1..8 {
             let length = |i: usize| if mask >> i & 1 == 1 { wrong[i] } else { due[i] };
             let cells = random.bytes(length(0));
-            assert_eq!(read(&mut random, &p, &cells, (length(1), length(2))).0, (2, 0, 0, 0));
+            assert_eq!(read(random, &p, &cells, (length(1), length(2))).0, (2, 0, 0, 0));
             if mask & 2 == 0 {
                 let payload = random.bytes(length(2));
-                assert_eq!(write(&mut random, &p, &payload, length(0)).0, (2, 0, 0, 0));
+                assert_eq!(write(random, &p, &payload, length(0)).0, (2, 0, 0, 0));
             }
             tally.count(called(2));
         }
@@ -149,9 +145,8 @@ fn listings() {
     for (input, text) in cases::lists() {
         assert_eq!(list(&input), text);
     }
-    let tally = run("listings", 1_500, |seed, tally| {
-        let mut random = Random::new(seed);
-        let text = list(&lister_input(&mut random));
+    let tally = run("listings", 1_500, |_, random, tally| {
+        let text = list(&lister_input(random));
         let kind = match text.strip_prefix("refused,") {
             Some(rest) => called(
                 rest.split(',')
