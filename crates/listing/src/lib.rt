@@ -7,7 +7,6 @@ ghost use Rattle.block.specs.Profile.{InRange};
 ghost use Rattle.listing_text.specs.Buffer.{textIn, textLength};
 ghost use Rattle.sheet.specs.Sheet.{refusalNumber};
 ghost use Rattle.listing.specs.Listing.{profileOf, scratchOf, payloadOf, sheetText, listed};
-
 use block::Profile;
 use sheet::Reading;
 use sheet::Refusal;
