@@ -30,11 +30,16 @@ returns c =
     let g = c .before .before .before .before .before .before .before .before .before .before .args in
     let p = c .before .before .before .before .before .before .before .profile-of .ensures in
     let w = c .before .before .before .before .before .correct .ensures in
-    let a = w .0 ∙ ap (λ (q : Profile). correctAnswer q (g .read .now) (g .out .now)) p in
-    (number-of verdictNumber _ _ _ (c .verdict-number .ensures) a,
-    (number-of verdictStart _ _ _ (c .before .before .verdict-start .ensures) a,
-    (number-of verdictLength _ _ _ (c .before .verdict-length .ensures) a,
-    w .1 ∙ ap (λ (q : Profile). correctLeaves q (g .read .now) (g .out .now)) p)))
+    let a = w .0 ∙ ap (λ (q : Profile). correctAnswer q (g .read .now) (g .out .now)) p in (
+      number-of verdictNumber _ _ _ (c .verdict-number .ensures) a,
+      (
+        number-of verdictStart _ _ _ (c .before .before .verdict-start .ensures) a,
+        (
+          number-of verdictLength _ _ _ (c .before .verdict-length .ensures) a,
+          w .1 ∙ ap (λ (q : Profile). correctLeaves q (g .read .now) (g .out .now)) p,
+        ),
+      ),
+    )
 
 pub tishwabe-correct-block-spec : {M : Type 1} → statement M
 tishwabe-correct-block-spec =

@@ -34,12 +34,19 @@ returns c =
     let g = c .before .before .before .before .before .before .before .before .before .before .before .before .before .before .args in
     let p = c .before .before .before .before .before .before .before .before .before .before .profile-of .ensures in
     let w = c .before .before .before .before .before .before .before .read .ensures in
-    let a = w .0 ∙ ap (λ (q : Profile). readAnswer q (g .sheet .now) (g .scratch .now) (g .payload .now)) p in
-    (number-of readingNumber _ _ _ (c .reading-number .ensures) a,
-    (number-of readingChanged _ _ _ (c .before .before .reading-changed .ensures) a,
-    (number-of readingPlace _ _ _ (c .before .reading-place .ensures) a,
-    (w .1 .0 ∙ ap (λ (q : Profile). readScratch q (g .sheet .now) (g .scratch .now) (g .payload .now)) p,
-    w .1 .1 ∙ ap (λ (q : Profile). readPayload q (g .sheet .now) (g .scratch .now) (g .payload .now)) p))))
+    let a = w .0 ∙ ap (λ (q : Profile). readAnswer q (g .sheet .now) (g .scratch .now) (g .payload .now)) p in (
+      number-of readingNumber _ _ _ (c .reading-number .ensures) a,
+      (
+        number-of readingChanged _ _ _ (c .before .before .reading-changed .ensures) a,
+        (
+          number-of readingPlace _ _ _ (c .before .reading-place .ensures) a,
+          (
+            w .1 .0 ∙ ap (λ (q : Profile). readScratch q (g .sheet .now) (g .scratch .now) (g .payload .now)) p,
+            w .1 .1 ∙ ap (λ (q : Profile). readPayload q (g .sheet .now) (g .scratch .now) (g .payload .now)) p,
+          ),
+        ),
+      ),
+    )
 
 pub tishwabe-read-sheet-spec : {M : Type 1} → statement M
 tishwabe-read-sheet-spec =
