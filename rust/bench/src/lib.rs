@@ -4,7 +4,6 @@
 pub mod coder;
 #[cfg(fec)]
 pub mod fec;
-#[cfg(proved)]
 pub mod proved;
 pub mod table;
 
@@ -25,10 +24,9 @@ impl Shape {
     }
 }
 
-/// The coders that are linked; the proved one first, if it is there.
+/// The coders that are linked, the proved one first.
 pub fn coders(shape: Shape) -> Vec<Box<dyn Coder>> {
     vec![
-        #[cfg(proved)]
         Box::new(proved::Proved::new(shape)),
         Box::new(table::Table::new(shape)),
         #[cfg(fec)]

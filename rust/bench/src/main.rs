@@ -12,10 +12,6 @@ use std::path::Path;
 const SHAPES: [(usize, usize); 4] = [(255, 16), (255, 32), (255, 64), (60, 20)];
 
 fn main() {
-    if cfg!(not(proved)) {
-        println!("target/staticlib/libcapi.a is absent: run `rt staticlib capi`, then build again");
-        return;
-    }
     let compared: Vec<_> = SHAPES
         .iter()
         .map(|&(n, r)| (Shape { n, r, b: 1 }, timing::measure(Shape { n, r, b: 1 }, 1001)))

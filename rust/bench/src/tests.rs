@@ -29,9 +29,6 @@ fn agree(shape: Shape, random: &mut Random) {
 
 #[test]
 fn coders_agree() {
-    if cfg!(not(proved)) {
-        println!("skipped: target/staticlib/libcapi.a is absent (rt staticlib capi writes it)");
-    }
     if cfg!(not(fec)) {
         println!("skipped: libfec is absent");
     }
