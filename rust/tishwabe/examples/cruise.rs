@@ -47,9 +47,9 @@ fn sheets() -> Result<[(&'static str, Vec<u8>); 4], Error> {
         *cell = (i * 37 + 11) as u8;
     }
     // block 3 wrong in cells far apart
-    let mut torn = written.clone();
+    let mut uncorrectable = written.clone();
     for i in [2, 19, 31, 44, 58] {
-        torn[cell(i, 3)] ^= 0x5A;
+        uncorrectable[cell(i, 3)] ^= 0x5A;
     }
     // half of a codeword of 22 cells added to block 5: two codewords are eleven cells away. The written block of the message 1, 0, 0, ..
     // is the generator.
@@ -57,11 +57,11 @@ fn sheets() -> Result<[(&'static str, Vec<u8>); 4], Error> {
     message[0] = 1;
     let mut generator = vec![0; N];
     profile.write_block(&message, &mut generator)?;
-    let mut tied = written.clone();
+    let mut ambiguous = written.clone();
     for (i, value) in generator[..11].iter().enumerate() {
-        tied[cell(i, 5)] ^= value;
+        ambiguous[cell(i, 5)] ^= value;
     }
-    Ok([("written", written), ("scratched", scratched), ("torn", torn), ("tied", tied)])
+    Ok([("written", written), ("scratched", scratched), ("torn", uncorrectable), ("tied", ambiguous)])
 }
 
 fn main() {
