@@ -26,6 +26,7 @@
 //!                                                             part (0 if refused); the part's bytes
 //!             byte 2, buffer payload, word plot to add,       number; record's first byte or place; the payload's
 //!             buffer lines                                    bytes at exit
+//! library     as block; then as sheets, with bytes 3 and 4    as there
 //! lists       buffer standard input                           length of the text; its bytes
 //! generators  word b, word r                                  the r+1 coefficients, lowest first
 
@@ -44,6 +45,7 @@ fn vectors(kind: &str) -> Option<Vec<Vector>> {
         "checks" => Some(blocks::checks()),
         "block" => Some(blocks::operations()),
         "sheets" => Some(sheets::sheets()),
+        "library" => Some(blocks::operations().into_iter().chain(sheets::after(3)).collect()),
         "plots" => Some(plots::plots()),
         "lists" => Some(sheets::lists()),
         "generators" => Some(blocks::generators()),
@@ -87,7 +89,7 @@ fn main() -> io::Result<()> {
     match output(&arguments)? {
         Some(bytes) => io::stdout().write_all(&bytes),
         None => {
-            eprintln!("vectors blocks|writes|checks|block|sheets|plots|lists|generators [--bytes|--answers]");
+            eprintln!("vectors blocks|writes|checks|block|sheets|library|plots|lists|generators [--bytes|--answers]");
             std::process::exit(2)
         }
     }

@@ -1,10 +1,10 @@
--- `block_vectors::with_second` meets its contract: the part lent has n bytes, and n is at most 512.
+-- `vectors::with_second` meets its contract: the part lent has n bytes, and n is at most 512.
 use borrow.Author.Needs.{needs}
 use native.Mathlib.Omega.{arith}
 use mathlib.Core.Path.{sym}
 use lib.Seq.{length-take-le}
-use Rattle.block_vectors.proofs.with_second.Statement.{statement}
-use Rattle.block_vectors.proofs.with_second.Tie as tie
+use Rattle.vectors.proofs.with_second.Statement.{statement}
+use Rattle.vectors.proofs.with_second.Tie as tie
 
 word-requires : tie.Need-word-requires
 word-requires c κs = search needs

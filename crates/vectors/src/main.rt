@@ -1,12 +1,13 @@
-// Writes, checks and corrects blocks that standard input describes, and prints one line of numbers for each. The files stdin and stdout were
-// made by rust/second, which shares no code with the library: `vectors block --bytes` and `vectors block --answers`. A vector is a byte for
-// the operation (0 correct, 1 write, 2 check), the profile as five words (n, r, b, L, D), a word for the length of the lent bytes, those
-// bytes, and, unless it is a check, a word for the length of the second buffer. A word is two bytes, the low one first.
+// Writes, checks and corrects blocks, and writes and reads sheets, that standard input describes, and prints one line of numbers for each. The
+// files stdin and stdout were made by rust/second, which shares no code with the library: `vectors library --bytes` and `vectors library
+// --answers`; rust/second/src/bin/vectors/main.rs says what a vector is. It begins with a byte for the operation (0 correct, 1 write, 2 check a
+// block; 3 write, 4 read a sheet) and the profile as five words; a word is two bytes, the low one first.
 ghost use Prim.Native.Nat.{_<_, _≤_};
 use block::Checked;
 use block::Profile;
 use libc::STDIN_FILENO;
 use libc::STDOUT_FILENO;
+use sheet::Reading;
 
 // ---- reading
 
@@ -125,11 +126,65 @@ fn with_second(o: u8, p: Profile, lent: &[u8]) {
     }
 }
 
+// ---- sheets
+
+fn reading_number(a: Reading) -> usize {
+    match a {
+        Reading::Accepted { changed: _ } => 0,
+        Reading::Refused(r) => r.number(),
+    }
+}
+
+fn reading_value(a: Reading) -> usize {
+    match a {
+        Reading::Accepted { changed } => changed,
+        Reading::Refused(r) => r.place(),
+    }
+}
+
+fn write_sheet(p: Profile, payload: &[u8], sheet: &mut [u8]) {
+    io::read_full(STDIN_FILENO, sheet);
+    first(block::written_number(sheet::write(p, payload, sheet)));
+    next(0);
+    cells(sheet);
+}
+
+fn read_sheet(p: Profile, sheet: &[u8], scratch: &mut [u8], payload: &mut [u8]) {
+    io::read_full(STDIN_FILENO, payload);
+    let a = sheet::read(p, sheet, scratch, payload);
+    first(reading_number(a));
+    next(reading_value(a));
+    cells(scratch);
+    cells(payload);
+}
+
+fn with_payload(p: Profile, sheet: &[u8], scratch: &mut [u8]) {
+    io::read_full(STDIN_FILENO, scratch);
+    let mut space = [0u8; 4096];
+    let n = least(word(), 4096);
+    read_sheet(p, sheet, scratch, &mut space[..n]);
+}
+
+// Writing a sheet (3) or reading one; of each lent buffer the stream has the length and the bytes.
+fn with_buffer(o: u8, p: Profile, lent: &[u8]) {
+    let mut space = [0u8; 4096];
+    let n = least(word(), 4096);
+    if o == 3 {
+        write_sheet(p, lent, &mut space[..n]);
+    } else {
+        with_payload(p, lent, &mut space[..n]);
+    }
+}
+
 fn run(o: u8, p: Profile, lent: &[u8]) {
     if o == 2 {
         check(p, lent);
     } else {
-        with_second(o, p, lent);
+        if o < 2 {
+            with_second(o, p, lent);
+        } else {
+            with_buffer(o, p, lent);
+        }
     }
     end();
 }
@@ -139,11 +194,11 @@ fn read_and_run(o: u8, p: Profile, lent: &mut [u8]) {
     run(o, p, lent);
 }
 
-// A vector after its first byte; lent bytes beyond 512 are not read.
+// A vector after its first byte; lent bytes beyond 4096 are not read.
 fn vector(o: u8) {
     let p = profile();
-    let mut space = [0u8; 512];
-    let n = least(word(), 512);
+    let mut space = [0u8; 4096];
+    let n = least(word(), 4096);
     read_and_run(o, p, &mut space[..n]);
 }
 

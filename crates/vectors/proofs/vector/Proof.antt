@@ -1,10 +1,10 @@
--- `block_vectors::vector` meets its contract: the part lent has n bytes, and n is at most 512.
+-- `vectors::vector` meets its contract: the part lent has n bytes, and n is at most 4096.
 use borrow.Author.Needs.{needs}
 use native.Mathlib.Omega.{arith}
 use mathlib.Core.Path.{sym}
 use lib.Seq.{length-take-le}
-use Rattle.block_vectors.proofs.vector.Statement.{statement}
-use Rattle.block_vectors.proofs.vector.Tie as tie
+use Rattle.vectors.proofs.vector.Statement.{statement}
+use Rattle.vectors.proofs.vector.Tie as tie
 
 profile-requires : tie.Need-profile-requires
 profile-requires c κs = search needs

@@ -1,9 +1,9 @@
--- `block_vectors::main` meets its contract: the count of vectors left falls with each turn.
+-- `vectors::main` meets its contract: the count of vectors left falls with each turn.
 use borrow.Author.Needs.{needs}
 use native.Mathlib.Omega.{arith}
 use Prim.Native.Nat.{_≤_}
-use Rattle.block_vectors.proofs.main.Statement.{statement}
-use Rattle.block_vectors.proofs.main.Tie as tie
+use Rattle.vectors.proofs.main.Statement.{statement}
+use Rattle.vectors.proofs.main.Tie as tie
 
 abbrev Inv-loop : tie.InvT-loop
 Inv-loop left₀ left = left ≤ 1000
