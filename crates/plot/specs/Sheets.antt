@@ -3,9 +3,7 @@
 use mathlib.Core.Path.{_≡_}
 use mathlib.Core.List.{List}
 use Prim.Native.Nat.{ℕ, _≤_}
-use Rattle.sheet.specs.Sheet.{writtenSheet, readAnswer, readPayload}
-use Rattle.sheet.specs.Theorems.{Payload, Lent}
-use Rattle.sheet.specs.Promise.{Profile, InRange, half, Damaged}
+use Rattle.sheet.specs.Promise.{Profile, InRange, half, Payload, Lent, writtenSheet, readAnswer, readPayload, Damaged}
 use Rattle.sheet.specs.declared.Reading.the-variants.{Accepted}
 use Rattle.plot.specs.Layout.{Plot}
 use Rattle.plot.specs.Grammar.{Plots, reading}
