@@ -29,11 +29,6 @@ use Rattle.sheet.proofs.Theorems.{block-cells}
 
 -- ---- reading
 
--- every element of a slice of bytes is a byte
-pub bytes-of : (s : List ℕ) → ((i : ℕ) → getD s i 0 < 256) → Bytes s
-bytes-of [] h = tt
-bytes-of (x ∷ s) h = (h 0, bytes-of s (λ i. h (suc i)))
-
 module _ (p : Profile) (v : InRange p) (sheet : List ℕ) (d : ℕ) where
   -- block d, gathered and corrected
   pub corrected-into : (word gathered part left : List ℕ) (r : Verdict) → length word ≡ p .n → length part ≡ p .n

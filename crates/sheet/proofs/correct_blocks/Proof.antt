@@ -12,7 +12,8 @@ use Rattle.code.specs.Poly.{Bytes}
 use Rattle.sheet.specs.Sheet.{joined, codeword, isCorrected, answerFrom, sheetAnswer}
 use Rattle.sheet.proofs.Places.{part-inside}
 use Rattle.sheet.proofs.Apart.{rows-start, rows-more, rows-end}
-use Rattle.sheet.proofs.Steps.{bytes-of, changed-small, turn-start, turn-on, turn-stop, turn-end}
+use Rattle.code.proofs.Poly.{bytes-of}
+use Rattle.sheet.proofs.Steps.{changed-small, turn-start, turn-on, turn-stop, turn-end}
 use Rattle.sheet.proofs.correct_blocks.Statement.{statement}
 use Rattle.sheet.proofs.correct_blocks.Tie as tie
 
