@@ -16,12 +16,15 @@ use Rattle.code.specs.Run.{ZeroFrom, backSteps, shiftedRemainder, addedAt}
 use Rattle.code.specs.Search.{extent, extents, scanned}
 use Rattle.code.proofs.Poly.{getD-zeros, take-bytes, drop-bytes}
 use Rattle.code.proofs.Division.{remainder-length}
-use Rattle.register.specs.Register.{padTo, onTop, feeds}
+use Rattle.register.specs.Register.{padTo, onTop, feeds, monicOf, backGenerator}
 use Rattle.register.proofs.Align.{pad-sum, drop-top, pad-is}
+use Rattle.register.proofs.Forward.{feeds-top}
+use Rattle.register.proofs.Generator.{monic-generator}
 use Rattle.register.proofs.LastCell.{extent-pad}
 use Rattle.register.proofs.Remainder.{left-length, remainder-feeds, check-cells}
 use Rattle.block.specs.Profile.{InRange, inRange, messageLength}
 use Rattle.block.specs.Block.{checkCells, encode, refusing, isClean, decided, judged, verdict, filled, checkAnswer, writeFits, writeAnswer, writeLeaves, correctFits, correctAnswer, correctLeaves}
+use Rattle.block.specs.Found.{generatorOnTop}
 use Rattle.block.specs.declared.Verdict.{Verdict}
 use Rattle.block.specs.declared.Verdict.the-variants as verdicts
 use Rattle.block.specs.declared.Written.the-variants as writes
@@ -58,19 +61,27 @@ second-wrong a b m n e h = rw (eq-eqb a m e, ne-eqb b n h)
 
 -- ---- what the register gives
 
-small : (r : ℕ) → r ≤ 64 → min r 64 ≡ r
-small r h = min-eq-left h
-
 module _ (p : Profile) (v : InRange p) where
-  pub checks-law : (m X Z : List ℕ) → Bytes m → X ≡ onTop (min (p .r) 64) (feeds (min (p .r) 64) (generator (p .b) (min (p .r) 64)) m)
-      → Z ≡ padTo 64 (drop (64 - min (p .r) 64) X) → Z ≡ padTo 64 (checkCells (p .b) (p .r) m)
+  whole : min (p .r) 64 ≡ p .r
+  whole = min-eq-left (v .r-most)
+
+  -- the generator for division is made with all of its r cells
+  pub generator-law : (G : List ℕ) → G ≡ onTop (min (p .r) 64) (take (min (p .r) 64) (generator (p .b) (min (p .r) 64))) → G ≡ generatorOnTop p
+  generator-law G e = e ∙ ap (λ (k : ℕ). onTop k (take k (generator (p .b) k))) whole
+
+  -- and gives that of the step back
+  pub back-generator-law : (G B : List ℕ) → G ≡ generatorOnTop p → B ≡ padTo 64 (backGenerator (monicOf (min (p .r) 64) G)) → B ≡ padTo 64 (backGenerator (generator (p .b) (p .r)))
+  back-generator-law G B eG eB =
+      eB
+      ∙ ap₂ (λ (k : ℕ) (u : List ℕ). padTo 64 (backGenerator (monicOf k u))) whole eG
+      ∙ ap (λ (g : List ℕ). padTo 64 (backGenerator g)) (monic-generator (p .b) (p .r))
+
+  pub checks-law : (m G X Z : List ℕ) → Bytes m → G ≡ generatorOnTop p → X ≡ feeds 64 G m → Z ≡ padTo 64 (drop (64 - min (p .r) 64) X) → Z ≡ padTo 64 (checkCells (p .b) (p .r) m)
   unfolding checkCells
-  checks-law m X Z h eX eZ =
-      let e : min (p .r) 64 ≡ p .r = small (p .r) (v .r-most) in
-      eZ ∙ ap (λ (u : List ℕ). padTo 64 (drop (64 - min (p .r) 64) u)) eX
-      ∙ ap (padTo 64) (drop-top (min (p .r) 64) (feeds (min (p .r) 64) (generator (p .b) (min (p .r) 64)) m)
-      ∙ ap (λ (k : ℕ). feeds k (generator (p .b) k) m) e
-      ∙ sym (check-cells (p .b) (p .r) (omega (arith, v .r-least)) m (omega (arith, v .r-most)) h))
+  checks-law m G X Z h eG eX eZ =
+      let g : List ℕ = generator (p .b) (p .r) in
+      eZ ∙ ap₂ (λ (k : ℕ) (u : List ℕ). padTo 64 (drop (64 - k) u)) whole (eX ∙ ap (λ (u : List ℕ). feeds 64 u m) eG ∙ feeds-top (p .r) g m (v .r-most))
+      ∙ ap (padTo 64) (drop-top (p .r) (feeds (p .r) g m) ∙ sym (check-cells (p .b) (p .r) (omega (arith, v .r-least)) m (omega (arith, v .r-most)) h))
 
   pub remainder-law : (y Z L C : List ℕ) → length y ≡ p .n → Bytes y → L ≡ padTo 64 (take (p .r) y)
       → C ≡ padTo 64 (checkCells (p .b) (p .r) (take (length y - p .r) (drop (p .r) y))) → Z ≡ padd L C → Z ≡ padTo 64 (remainder (p .r) (generator (p .b) (p .r)) y)

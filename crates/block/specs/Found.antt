@@ -1,17 +1,22 @@
--- What the corrector's private functions say of the search's state. No promise cites this.
+-- What the block's private functions say of the generator and of the search's state. No promise cites this.
 use mathlib.Core.Path.{_≡_}
 use mathlib.Core.List.{List}
 use Prim.Native.Nat.{ℕ, _+_}
 use lib.Dec.{eqb, ltb, leb}
+use lib.ListN.{take}
 use Rattle.lists.specs.Choice.{pick}
 use Rattle.code.specs.Code.{generator}
 use Rattle.code.specs.Run.{backSteps}
 use Rattle.code.specs.Search.{Best, extent, extents, scanned}
 use Rattle.register.specs.Words.{cells}
-use Rattle.register.specs.Register.{padTo}
+use Rattle.register.specs.Register.{padTo, onTop}
 use Rattle.register.specs.declared.Register.{Register}
 use Rattle.block.specs.declared.Profile.{Profile}
 use Rattle.block.specs.declared.Found.{Found}
+
+-- the low r cells of the generator as the highest of 64
+abbrev pub generatorOnTop : Profile → List ℕ
+generatorOnTop p = onTop (p .r) (take (p .r) (generator (p .b) (p .r)))
 
 -- the search's state without the shifted remainder
 abbrev pub bestOf : Found → Best

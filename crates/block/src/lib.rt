@@ -13,7 +13,7 @@ ghost use Rattle.register.specs.Words.{cells};
 ghost use Rattle.register.specs.Register.{padTo};
 ghost use Rattle.block.specs.Profile.{InRange, inRange, messageLength, half};
 ghost use Rattle.block.specs.Block.{checkCells, isClean, verdict, filled, verdictNumber, verdictStart, verdictLength, writtenNumber, checkedNumber, writeAnswer, writeLeaves, checkAnswer, correctAnswer, correctLeaves};
-ghost use Rattle.block.specs.Found.{improvedBy, Searched};
+ghost use Rattle.block.specs.Found.{generatorOnTop, improvedBy, Searched};
 use register::Register;
 
 /// The five numbers of a profile: cells in a block (n), check cells (r), starting power (b), the longest run that may be
@@ -177,13 +177,22 @@ pub fn checked_number(c: Checked) -> usize
 
 // ---- writing
 
-// The r check cells of a message, as the lowest of the register.
-fn message_checks(p: Profile, message: &[u8]) -> Register
+// The low r cells of the generator, as the highest of the register.
+fn generator_of(p: Profile) -> Register
     requires { ⌜ InRange p ⌝ }
+    ensures { λ g. ⌜ cells g ≡ generatorOnTop p ⌝ }
+{
+    register::generator_top(p.b, p.r)
+}
+
+// The r check cells of a message, as the lowest of the register.
+fn message_checks(p: Profile, g: Register, message: &[u8]) -> Register
+    requires { ⌜ InRange p ⌝ }
+    requires { ⌜ cells g ≡ generatorOnTop p ⌝ }
     requires { ⌜ length (now message) ≡ messageLength p ⌝ }
     ensures { λ z. ⌜ cells z ≡ padTo 64 (checkCells (p .b) (p .r) (now (message .entry))) ⌝ }
 {
-    register::lowered(register::check_cells(p.b, p.r, message), p.r)
+    register::lowered(register::divide(g, message), p.r)
 }
 
 // The first r of the check cells, and the message above them.
@@ -212,7 +221,7 @@ pub fn write(p: Profile, message: &[u8], cells: &mut [u8]) -> Written
     }
     lay_out(
         p.r,
-        register::low_cells(message_checks(p, message)),
+        register::low_cells(message_checks(p, generator_of(p), message)),
         message,
         cells,
     );
@@ -222,13 +231,14 @@ pub fn write(p: Profile, message: &[u8], cells: &mut [u8]) -> Written
 // ---- checking
 
 // The remainder of a block by the generator, as the lowest r cells of the register.
-fn remainder_of(p: Profile, read: &[u8]) -> Register
+fn remainder_of(p: Profile, g: Register, read: &[u8]) -> Register
     requires { ⌜ InRange p ⌝ }
+    requires { ⌜ cells g ≡ generatorOnTop p ⌝ }
     requires { ⌜ length (now read) ≡ p .n ⌝ }
     ensures { λ z. ⌜ cells z ≡ padTo 64 (remainder (p .r) (generator (p .b) (p .r)) (now (read .entry))) ⌝ }
 {
     let r = p.r;
-    let checks = message_checks(p, &read[r..]);
+    let checks = message_checks(p, g, &read[r..]);
     register::add(register::load(&read[..r]), checks)
 }
 
@@ -242,7 +252,7 @@ pub fn check(p: Profile, read: &[u8]) -> Checked
     if read.len() != p.n {
         return Checked::WrongLength;
     }
-    if register::extent(remainder_of(p, read)) == 0 {
+    if register::extent(remainder_of(p, generator_of(p), read)) == 0 {
         return Checked::Clean;
     }
     Checked::NotClean
@@ -290,16 +300,18 @@ fn improved(k: Found, n: usize, s: usize, rest: Register) -> Found
     }
 }
 
-// The search: one pass over the starts, with the shifted remainder of each. A step back adds the rows of the two halves of the lowest cell.
-fn search(p: Profile, first: Register) -> Found
+// The search: one pass over the starts, with the shifted remainder of each. A step back adds the rows of the two halves of the lowest cell f.
+fn search(p: Profile, g: Register, first: Register) -> Found
     requires { ⌜ InRange p ⌝ }
+    requires { ⌜ cells g ≡ generatorOnTop p ⌝ }
     requires { ⌜ ZeroFrom (p .r) (cells first) ⌝ }
     ensures { λ z. ⌜ Searched p (take (p .r) (cells first)) z ⌝ }
 {
-    let back = register::generator_bottom(p.b, p.r);
+    let back = register::generator_bottom(g, p.r);
     let low = register::rows(back);
     let high = register::high_rows(back);
     let mut rest = first;
+    let mut f = register::bottom(first);
     let mut found = Found {
         size: p.limit + 1,
         start: 0,
@@ -310,11 +322,11 @@ fn search(p: Profile, first: Register) -> Found
     while s < p.n {
         let next = improved(found, p.n, s, rest);
         found = next;
-        let f = register::bottom(rest);
-        let l = low[f % 16];
         let h = high[f / 16];
-        let shifted = register::add(register::add(register::shift_down(rest), l), h);
+        let l = low[f % 16];
+        let shifted = register::add(register::add(register::shift_down(rest), h), l);
         rest = shifted;
+        f = register::bottom(shifted);
         s += 1;
     }
     found
@@ -344,15 +356,22 @@ fn place(read: &[u8], error: [u8; 64], start: usize, size: usize, out: &mut [u8]
 }
 
 // A block that is not clean, with its remainder.
-fn correct_errors(p: Profile, rest: Register, read: &[u8], out: &mut [u8]) -> Verdict
+fn correct_errors(
+    p: Profile,
+    g: Register,
+    rest: Register,
+    read: &[u8],
+    out: &mut [u8],
+) -> Verdict
     requires { ⌜ InRange p ⌝ }
+    requires { ⌜ cells g ≡ generatorOnTop p ⌝ }
     requires { ⌜ (length (now read) ≡ p .n) × (length (now out) ≡ p .n) ⌝ }
     requires { ⌜ cells rest ≡ padTo 64 (remainder (p .r) (generator (p .b) (p .r)) (now read)) ⌝ }
     requires { ⌜ isClean (p .b) (p .r) (now read) ≡ false ⌝ }
     ensures { λ a. ⌜ a ≡ verdict p (now (read .entry)) ⌝ }
     ensures { λ _. ⌜ now (out .exit) ≡ filled p (now (read .entry)) (now (out .entry)) (verdict p (now (read .entry))) ⌝ }
 {
-    let found = search(p, rest);
+    let found = search(p, g, rest);
     let size = found.size;
     let start = found.start;
     let error = found.error;
@@ -383,7 +402,8 @@ pub fn correct(p: Profile, read: &[u8], out: &mut [u8]) -> Verdict
     if out.len() != p.n {
         return Verdict::WrongLength;
     }
-    let rest = remainder_of(p, read);
+    let g = generator_of(p);
+    let rest = remainder_of(p, g, read);
     if register::extent(rest) == 0 {
         bytes::copy(read, out);
         return Verdict::Corrected {
@@ -391,5 +411,5 @@ pub fn correct(p: Profile, read: &[u8], out: &mut [u8]) -> Verdict
             length: 0,
         };
     }
-    correct_errors(p, rest, read, out)
+    correct_errors(p, g, rest, read, out)
 }

@@ -29,7 +29,7 @@ unfolding pscale
 tail-pscale a [] = refl
 tail-pscale a (x ∷ g) = refl
 
-step-is : (b r : ℕ) (R : List ℕ) → backStep (generator b r) R ≡ padd (drop 1 R) (pscale (getD R 0 0) (backGenerator b r))
+step-is : (b r : ℕ) (R : List ℕ) → backStep (generator b r) R ≡ padd (drop 1 R) (pscale (getD R 0 0) (backGenerator (generator b r)))
 unfolding backStep backGenerator
 step-is b r R =
     let g : List ℕ = generator b r in
@@ -39,16 +39,16 @@ step-is b r R =
 
 -- the step in one sum
 pub back-step : (b r : ℕ) (R : List ℕ) → length R ≤ 64
-    → padd (shiftDown (padTo 64 R) 0) (pscale (getD (padTo 64 R) 0 0) (padTo 64 (backGenerator b r))) ≡ padTo 64 (backStep (generator b r) R)
+    → padd (shiftDown (padTo 64 R) 0) (pscale (getD (padTo 64 R) 0 0) (padTo 64 (backGenerator (generator b r)))) ≡ padTo 64 (backStep (generator b r) R)
 back-step b r R h =
-    let H : List ℕ = backGenerator b r in
+    let H : List ℕ = backGenerator (generator b r) in
     ap₂ padd (pad-down 64 R h) (ap (λ (f : ℕ). pscale f (padTo 64 H)) (pad-first 64 R (omega arith)) ∙ pad-scale 64 (getD R 0 0) H)
     ∙ pad-sum 64 (drop 1 R) (pscale (getD R 0 0) H)
     ∙ ap (padTo 64) (sym (step-is b r R))
 
 -- the step as a loop makes it: X the register, S it shifted down, L and H the rows of the halves of the lowest cell f, A and N the two sums
-pub back-law : (b r : ℕ) (R X P S L H A N : List ℕ) (f : ℕ) → length R ≤ 64 → X ≡ padTo 64 R → P ≡ padTo 64 (backGenerator b r) → f ≡ getD X 0 0 → S ≡ shiftDown X 0
-    → L ≡ pscale (f % 16) P → H ≡ pscale (16 * (f / 16)) P → A ≡ padd S L → N ≡ padd A H → N ≡ padTo 64 (backStep (generator b r) R)
+pub back-law : (b r : ℕ) (R X P S L H A N : List ℕ) (f : ℕ) → length R ≤ 64 → X ≡ padTo 64 R → P ≡ padTo 64 (backGenerator (generator b r)) → f ≡ getD X 0 0 → S ≡ shiftDown X 0
+    → L ≡ pscale (f % 16) P → H ≡ pscale (16 * (f / 16)) P → A ≡ padd S H → N ≡ padd A L → N ≡ padTo 64 (backStep (generator b r) R)
 back-law b r R X P S L H A N f h eX eP ef eS eL eH eA eN =
     rows-sum P S L H A N f eL eH eA eN
     ∙ ap₂ padd (eS ∙ ap (λ (u : List ℕ). shiftDown u 0) eX) (ap₂ pscale (ef ∙ ap (λ (u : List ℕ). getD u 0 0) eX) eP)

@@ -12,7 +12,7 @@ use lib.Pow.{shr-shr, split, high, low}
 use Rattle.lists.proofs.Test.{all, all-at, equal-below}
 use Rattle.field.specs.Field.{add, mul, mulBits, double}
 use Rattle.field.proofs.Sum.{Additive, agree-byte, add-low}
-use Rattle.field.proofs.Product.{mul-add, mul-zero, mul-one, mul-two, mul-lt, one-mul, mul-comm, mul-assoc}
+use Rattle.field.proofs.Product.{mul-add, mul-zero, mul-one, mul-two, mul-lt, one-mul, mul-comm, mul-assoc, mul-left-comm}
 use Rattle.code.specs.Poly.{padd, pscale, Bytes}
 use Rattle.code.proofs.Poly.{pscale-zero}
 use Rattle.register.specs.Words.{byte, bytesFrom}
@@ -213,3 +213,15 @@ doubles-law a c1 c2 c3 c4 c5 c6 c7 h e1 e2 e3 e4 e5 e6 e7 =
     let m6 : c6 ≡ mul 64 a = e6 ∙ ap double m5 ∙ twice 5 a (omega arith) in
     let m7 : c7 ≡ mul 128 a = e7 ∙ ap double m6 ∙ twice 6 a (omega arith) in
     (m0, m1, m2, m3, m4, m5, m6, m7)
+
+-- the doubles of 2 a: each moves down by one place
+pub next-doubles-law : (a c : ℕ) (d : Doubles) → DoublesOf a d → c ≡ double (d .c7)
+    → DoublesOf (mul 2 a) (record { c0 = d .c1; c1 = d .c2; c2 = d .c3; c3 = d .c4; c4 = d .c5; c5 = d .c6; c6 = d .c7; c7 = c })
+next-doubles-law a c d e q =
+    (e .1 ∙ down 0 (omega arith), e .2 ∙ down 1 (omega arith), e .3 ∙ down 2 (omega arith), e .4 ∙ down 3 (omega arith), e .5 ∙ down 4 (omega arith), e .6 ∙ down 5 (omega arith), e .7 ∙ down 6 (omega arith), q ∙ ap double (e .7) ∙ turned 7)
+  where
+    turned : (k : ℕ) → double (mul (2 ^ k) a) ≡ mul (2 ^ k) (mul 2 a)
+    turned k = sym (mul-two (mul (2 ^ k) a) (mul-lt (2 ^ k) a)) ∙ mul-left-comm 2 (2 ^ k) a
+
+    down : (k : ℕ) → k < 7 → mul (2 ^ suc k) a ≡ mul (2 ^ k) (mul 2 a)
+    down k h = sym (twice k a h) ∙ turned k

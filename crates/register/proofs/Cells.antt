@@ -6,6 +6,8 @@ use native.Mathlib.Nat.{mod-eq-of-lt, mod-lt}
 use native.Mathlib.Omega.{arith}
 use lib.Bits.{bitXor}
 use lib.ListN.{length, getD, take}
+use Rattle.field.specs.Field.{add}
+use Rattle.field.proofs.Sum.{add-lt}
 use Rattle.code.specs.Poly.{padd, pscale, Bytes}
 use Rattle.register.specs.Words.{byte, bytesFrom, unpack, words, cells}
 use Rattle.register.specs.Register.{shiftUp, shiftDown}
@@ -13,10 +15,10 @@ use Rattle.register.specs.declared.Register.{Register}
 use Rattle.register.proofs.Linear.{shr}
 use Rattle.register.proofs.Words.{word-xor}
 
-abbrev cat8 : (a b c d e f g h : List ℕ) → List ℕ
+abbrev pub cat8 : (a b c d e f g h : List ℕ) → List ℕ
 cat8 a b c d e f g h = a ++ (b ++ (c ++ (d ++ (e ++ (f ++ (g ++ (h ++ [])))))))
 
-cong8 : {a b c d e f g h a' b' c' d' e' f' g' h' : List ℕ} → a ≡ a' → b ≡ b' → c ≡ c' → d ≡ d' → e ≡ e' → f ≡ f' → g ≡ g' → h ≡ h'
+pub cong8 : {a b c d e f g h a' b' c' d' e' f' g' h' : List ℕ} → a ≡ a' → b ≡ b' → c ≡ c' → d ≡ d' → e ≡ e' → f ≡ f' → g ≡ g' → h ≡ h'
     → cat8 a b c d e f g h ≡ cat8 a' b' c' d' e' f' g' h'
 cong8 p q r s t u v w = ap₂ _++_ p (ap₂ _++_ q (ap₂ _++_ r (ap₂ _++_ s (ap₂ _++_ t (ap₂ _++_ u (ap₂ _++_ v (ap₂ _++_ w refl)))))))
 
@@ -62,9 +64,13 @@ pub cells-bottom : (x : Register) → x .w0 % 256 ≡ getD (cells x) 0 0
 unfolding cells byte
 cells-bottom x = ap (λ (k : ℕ). k % 256) (sym (native.Mathlib.Nat.div-one (x .w0)))
 
-pub cells-top : (x : Register) → x .w7 < 2 ^ 64 → shr 56 (x .w7) ≡ getD (cells x) 63 0
+cells-top : (x : Register) → x .w7 < 2 ^ 64 → shr 56 (x .w7) ≡ getD (cells x) 63 0
 unfolding cells byte
 cells-top x h = sym (mod-eq-of-lt (omega arith))
+
+pub feedback-is : (x : Register) (c : ℕ) → x .w7 < 2 ^ 64 → c < 256 → (bitXor (shr 56 (x .w7)) c ≡ add (getD (cells x) 63 0) c) × (bitXor (shr 56 (x .w7)) c < 256)
+unfolding add
+feedback-is x c h hc = (ap (λ (t : ℕ). bitXor t c) (cells-top x h), add-lt (shr 56 (x .w7)) c (omega arith) hc)
 
 byte-lt : (w k : ℕ) → byte w k < 256
 unfolding byte

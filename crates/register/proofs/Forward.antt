@@ -3,7 +3,6 @@ use mathlib.Core.Path.{_≡_, refl, sym, ap, ap₂, _∙_}
 use mathlib.Core.List.{List, [], _∷_}
 use Prim.Native.Nat.{ℕ, zero, suc, _+_, _-_, _*_, _/_, _%_, _≤_, _<_}
 use native.Mathlib.Omega.{arith}
-use lib.Bits.{bitXor}
 use lib.ListN.{length, getD, take, drop, replicate, length-append, length-replicate, length-take, replicate-append-replicate}
 use lib.Seq.{drop-cons, drop-length, take-all}
 use Rattle.code.specs.Poly.{padd, pscale}
@@ -15,17 +14,13 @@ use Rattle.register.proofs.Cells.{take-cells}
 use Rattle.register.proofs.Multiples.{rows-sum}
 use Rattle.register.proofs.Align.{low-up, low-scale, low-sum, low-at}
 
-xor-fed : (t u x : ℕ) → t ≡ u → bitXor t x ≡ add u x
-unfolding add
-xor-fed t u x e = ap (λ (k : ℕ). bitXor k x) e
-
 -- a turn of the loop: the feedback is the highest cell and the cell that comes in
-pub feed-law : (p : Register) (R S L H A N : List ℕ) (t x f : ℕ) → t ≡ getD R 63 0 → f ≡ bitXor t x → S ≡ shiftUp 0 R
-    → L ≡ pscale (f % 16) (cells p) → H ≡ pscale (16 * (f / 16)) (cells p) → A ≡ padd S L → N ≡ padd A H → N ≡ feed 64 (cells p) x R
+pub feed-law : (p : Register) (R S L H A N : List ℕ) (x f : ℕ) → f ≡ add (getD R 63 0) x → S ≡ shiftUp 0 R
+    → L ≡ pscale (f % 16) (cells p) → H ≡ pscale (16 * (f / 16)) (cells p) → A ≡ padd S H → N ≡ padd A L → N ≡ feed 64 (cells p) x R
 unfolding feed
-feed-law p R S L H A N t x f et ef eS eL eH eA eN =
+feed-law p R S L H A N x f ef eS eL eH eA eN =
     rows-sum (cells p) S L H A N f eL eH eA eN
-    ∙ ap₂ (λ (u : List ℕ) (k : ℕ). padd u (pscale k (cells p))) eS (ef ∙ xor-fed t (getD R 63 0) x et)
+    ∙ ap₂ (λ (u : List ℕ) (k : ℕ). padd u (pscale k (cells p))) eS ef
     ∙ ap (λ (g : List ℕ). padd (shiftUp 0 R) (pscale (add (getD R 63 0) x) g)) (sym (take-cells p))
 
 pub feeds-more : (r : ℕ) (G s : List ℕ) (i : ℕ) → 0 < i → i ≤ length s → feeds r G (drop (i - 1) s) ≡ feed r G (getD s (i - 1) 0) (feeds r G (drop i s))

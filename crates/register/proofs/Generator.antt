@@ -1,21 +1,25 @@
--- The generator, root by root, at the top and at the bottom of a register. A further root a makes of g the sum of a g and x g
--- (code's generator-suc); the register holds all of g but the cell 1 on top, or all but the lowest cell.
-use mathlib.Core.Path.{_≡_, refl, sym, ap, ap₂, _∙_}
+-- The generator at the top of a register, root by root, and the generator of the step back at the bottom. A further root a makes of g the sum of
+-- a g and x g (code's generator-suc); the register holds all of g but the cell 1 on top.
+use mathlib.Core.Path.{_≡_, refl, sym, ap, ap₂, _∙_, subst}
 use mathlib.Core.List.{List, [], _∷_, _++_, append-assoc}
-use Prim.Native.Nat.{ℕ, zero, suc, _+_, _-_, _<_}
+use Prim.Native.Nat.{ℕ, zero, suc, _+_, _-_, _<_, _≤_}
 use native.Mathlib.Omega.{arith}
 use native.Mathlib.Numerals.{add-one}
-use lib.ListN.{length, getD, take, replicate}
-use lib.Seq.{take-length, take-suc, take-all}
+use lib.ListN.{length, getD, take, drop, replicate, length-replicate, drop-of-length-le, List·getD-append}
+use lib.Seq.{take-length, take-suc, take-all, drop-nil, drop-at, getD-drop}
 use Rattle.field.specs.Field.{add, mul, inverse, alpha}
-use Rattle.field.proofs.Sum.{add-zero-r}
+use Rattle.field.proofs.Product.{mul-two}
+use Rattle.field.proofs.Turns.{alpha-turn}
+use Rattle.field.proofs.Laws.{alpha-laws}
 use Rattle.code.specs.Poly.{padd, pscale}
 use Rattle.code.specs.Code.{generator}
 use Rattle.code.specs.Run.{tail}
 use Rattle.code.proofs.Poly.{padd-comm, pscale-length}
 use Rattle.code.proofs.Generator.{generator-length, generator-monic, generator-suc}
-use Rattle.register.specs.Register.{shiftUp, shiftDown, onTop, padTo, backGenerator}
-use Rattle.register.proofs.Align.{pad-nil, pad-sum, pad-scale, pad-up, low-scale, low-sum}
+use Rattle.register.specs.Doubles.{DoublesOf}
+use Rattle.register.specs.declared.word.Doubles.{Doubles}
+use Rattle.register.specs.Register.{shiftDown, onTop, padTo, monicOf, backGenerator}
+use Rattle.register.proofs.Align.{pad-first, pad-scale, low-scale, low-sum}
 
 -- ---- at the top
 
@@ -77,37 +81,62 @@ top-more b i a G D S N h ea eG eD eS eN =
 pub top-none : (b : ℕ) (G : List ℕ) → G ≡ replicate 64 0 → G ≡ onTop 0 (take 0 (generator b 0))
 top-none b G e = e
 
+-- the doubles of one root give those of the next
+pub next-root : (b i : ℕ) (d : Doubles) → DoublesOf (mul 2 (alpha (b + i))) d → DoublesOf (alpha (b + (i + 1))) d
+next-root b i d h =
+    let e : b + i + 1 ≡ b + (i + 1) = omega arith in
+    subst (λ (v : ℕ). DoublesOf v d) (alpha-turn (b + i) (alpha (b + i)) (mul 2 (alpha (b + i))) refl (mul-two (alpha (b + i)) (alpha-laws .byte (b + i))) ∙ ap alpha e) h
+
+pub first-root : (b a : ℕ) (d : Doubles) → a ≡ alpha b → DoublesOf a d → DoublesOf (alpha (b + 0)) d
+first-root b a d e h =
+    let z : b ≡ b + 0 = omega arith in
+    subst (λ (v : ℕ). DoublesOf v d) (e ∙ ap alpha z) h
+
 -- ---- at the bottom
 
-linear-parts : (g : List ℕ) (a : ℕ) → 0 < length g → padd (pscale a g) (0 ∷ g) ≡ mul a (getD g 0 0) ∷ padd (getD g 0 0 ∷ tail g) (pscale a (tail g))
-unfolding padd pscale
-linear-parts [] a h = absurd (omega arith)
-linear-parts (x ∷ g) a h = ap₂ _∷_ (add-zero-r (mul a x)) (padd-comm (pscale a g) (x ∷ g))
+-- a register on top of which stands the generator
+pub monic-generator : (b r : ℕ) → monicOf r (onTop r (take r (generator b r))) ≡ generator b r
+monic-generator b r =
+    ap (drop (64 - r)) (append-assoc (replicate (64 - r) 0) (take r (generator b r)) (1 ∷ []))
+    ∙ drop-at (replicate (64 - r) 0) (take r (generator b r) ++ (1 ∷ [])) (64 - r) (length-replicate (64 - r) 0)
+    ∙ split-top b r
 
--- a further root, where the lowest cell stands apart
-generator-parts : (b i : ℕ) → generator b (suc i)
-    ≡ mul (alpha (b + i)) (getD (generator b i) 0 0) ∷ padd (getD (generator b i) 0 0 ∷ tail (generator b i)) (pscale (alpha (b + i)) (tail (generator b i)))
-generator-parts b i = generator-suc b i ∙ linear-parts (generator b i) (alpha (b + i)) (omega (arith, generator-length b i))
+tail-drop : (k x : ℕ) (l : List ℕ) → tail (drop k (x ∷ l)) ≡ drop k l
+tail-drop zero x l = refl
+tail-drop (suc k) x [] = ap tail (drop-nil k)
+tail-drop (suc k) x (y ∷ l) = tail-drop k y l
 
-pub bottom-more : (b i a c d : ℕ) (G U S N : List ℕ) → a ≡ alpha (b + i) → c ≡ getD (generator b i) 0 0 → G ≡ padTo 64 (tail (generator b i))
-    → U ≡ shiftUp c G → S ≡ pscale a G → N ≡ padd U S → d ≡ mul a c
-    → (d ≡ getD (generator b (i + 1)) 0 0) × (N ≡ padTo 64 (tail (generator b (i + 1))))
-bottom-more b i a c d G U S N ea ec eG eU eS eN ed =
-    let t : List ℕ = tail (generator b i) in
-    let h : ℕ = getD (generator b i) 0 0 in
-    let v : ℕ = alpha (b + i) in
-    let up : U ≡ padTo 64 (h ∷ t) = eU ∙ ap₂ shiftUp ec eG ∙ pad-up 64 h t in
-    let scaled : S ≡ padTo 64 (pscale v t) = eS ∙ ap₂ pscale ea eG ∙ pad-scale 64 v t in
-    let next : generator b (i + 1) ≡ mul v h ∷ padd (h ∷ t) (pscale v t) = ap (generator b) (add-one i) ∙ generator-parts b i in (
-      ed ∙ ap₂ mul ea ec ∙ sym (ap (λ (g : List ℕ). getD g 0 0) next),
-      eN ∙ ap₂ padd up scaled ∙ pad-sum 64 (h ∷ t) (pscale v t) ∙ sym (ap (λ (g : List ℕ). padTo 64 (tail g)) next),
-    )
+-- the cells above the lowest are those of the register moved down by one, with 1 on top
+tail-monic : (k : ℕ) (G : List ℕ) → 0 < length G → tail (drop k (G ++ (1 ∷ []))) ≡ drop k (shiftDown G 1)
+tail-monic k [] h = absurd (omega arith)
+tail-monic k (x ∷ l) h = tail-drop k x (l ++ (1 ∷ [])) ∙ ap (drop k) (sym (down-in 1 x l))
 
-pub bottom-none : (b : ℕ) (G : List ℕ) → G ≡ replicate 64 0 → (1 ≡ getD (generator b 0) 0 0) × (G ≡ padTo 64 (tail (generator b 0)))
-unfolding generator
-bottom-none b G e = (refl, e ∙ sym (pad-nil 64))
+first-monic : (k : ℕ) (G : List ℕ) → k < length G → getD (drop k G) 0 0 ≡ getD (drop k (G ++ (1 ∷ []))) 0 0
+first-monic k G h =
+    getD-drop k G 0 0
+    ∙ sym (List·getD-append G (1 ∷ []) 0 (k + 0) (omega arith))
+    ∙ sym (getD-drop k (G ++ (1 ∷ [])) 0 0)
 
-pub bottom-all : (b n c v : ℕ) (G N : List ℕ) → c ≡ getD (generator b n) 0 0 → G ≡ padTo 64 (tail (generator b n)) → v ≡ inverse c → N ≡ pscale v G → N ≡ padTo 64 (backGenerator b n)
-unfolding backGenerator
-bottom-all b n c v G N ec eG ev eN =
-    eN ∙ ap₂ pscale (ev ∙ ap inverse ec) eG ∙ pad-scale 64 (inverse (getD (generator b n) 0 0)) (tail (generator b n))
+down-length : (G : List ℕ) → length (shiftDown G 1) ≡ length G
+unfolding shiftDown
+down-length [] = refl
+down-length (x ∷ []) = refl
+down-length (x ∷ y ∷ l) = ap suc (down-length (y ∷ l))
+
+-- with no cell above the lowest every factor will do
+scaled-tail : (r v : ℕ) (G : List ℕ) → r ≤ 64 → length G ≡ 64 → (0 < r → v ≡ inverse (getD (monicOf r G) 0 0))
+    → pscale v (drop (64 - r) (shiftDown G 1)) ≡ backGenerator (monicOf r G)
+unfolding backGenerator pscale
+scaled-tail zero v G h l e =
+    let short : length (shiftDown G 1) ≤ 64 = omega (arith, down-length G) in
+    let none : drop 64 (shiftDown G 1) ≡ [] = drop-of-length-le (shiftDown G 1) short in
+    ap (pscale v) none ∙ ap (pscale (inverse (getD (monicOf 0 G) 0 0))) (sym (tail-monic 64 G (omega arith) ∙ none))
+scaled-tail (suc r) v G h l e = ap₂ pscale (e (omega arith)) (sym (tail-monic (64 - suc r) G (omega arith)))
+
+pub bottom-law : (r c v : ℕ) (G L P D N : List ℕ) → r ≤ 64 → length G ≡ 64 → L ≡ padTo 64 (drop (64 - r) G) → c ≡ getD L 0 0 → v ≡ inverse c
+    → P ≡ shiftDown G 1 → D ≡ padTo 64 (drop (64 - r) P) → N ≡ pscale v D → N ≡ padTo 64 (backGenerator (monicOf r G))
+bottom-law r c v G L P D N h l eL ec ev eP eD eN =
+    eN
+    ∙ ap (pscale v) (eD ∙ ap (λ (u : List ℕ). padTo 64 (drop (64 - r) u)) eP)
+    ∙ pad-scale 64 v (drop (64 - r) (shiftDown G 1))
+    ∙ ap (padTo 64) (scaled-tail r v G h l (λ p. ev ∙ ap inverse (ec ∙ ap (λ (u : List ℕ). getD u 0 0) eL ∙ pad-first 64 (drop (64 - r) G) (omega arith) ∙ first-monic (64 - r) G (omega arith))))

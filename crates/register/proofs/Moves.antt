@@ -1,34 +1,81 @@
 -- Cells that come in and go out one at a time, and cells moved down: what is left of a list after i cells is what the loops keep.
+use mathlib.Core.Logic.{⊎-elim}
 use mathlib.Core.Path.{_≡_, refl, sym, ap, ap₂, _∙_}
 use mathlib.Core.List.{List, [], _∷_, _++_}
 use Prim.Native.Nat.{ℕ, zero, suc, _+_, _-_, _*_, _/_, _%_, _≤_, _<_, min}
 use native.Mathlib.Omega.{arith}
 use native.Mathlib.Numerals.{add-one}
-use native.Mathlib.Nat.{add-zero}
+use native.Mathlib.Nat.{zero-add, suc-add}
 use lib.ListN.{length, getD, set, take, drop, replicate, length-take, length-drop, drop-of-length-le}
-use lib.Seq.{drop-cons, drop-drop, getD-take, getD-drop, take-suc, take-suc-set, take-all}
-use Rattle.register.specs.Words.{byte, unpack, cells}
+use lib.Seq.{drop-cons, drop-drop, drop-nil, drop-at, length-take-le, getD-take, take-add, take-suc, take-suc-set, take-all}
+use Rattle.lists.proofs.Test.{lt-or-ge}
+use Rattle.register.specs.Words.{byte, bytesFrom, unpack, cells}
 use Rattle.register.specs.Register.{shiftUp, shiftDown, padTo}
 use Rattle.register.specs.declared.Register.{Register}
-use Rattle.register.proofs.Cells.{cells-length}
-use Rattle.register.proofs.Align.{pad-nil, pad-full, pad-first, pad-up, pad-down, drop-pad}
+use Rattle.register.proofs.Cells.{cells-length, cong8}
+use Rattle.register.proofs.Align.{pad-nil, pad-full, pad-take, pad-up, pad-down, drop-pad}
 
--- ---- cells that come in, from the last to the first
+-- ---- cells that come in, from the last of the first m to the first
 
-pub load-none : (s : List ℕ) (n : ℕ) → n ≡ min (length s) 64 → padTo 64 (drop n (take 64 s)) ≡ replicate 64 0
-load-none s n e =
-    let h : length (take 64 s) ≤ n = omega (arith, length-take 64 s) in
-    ap (padTo 64) (drop-of-length-le (take 64 s) h) ∙ pad-nil 64
+pub load-none : (n m k : ℕ) (s : List ℕ) → k ≡ min (length s) m → padTo n (drop k (take m s)) ≡ replicate n 0
+load-none n m k s e =
+    let h : length (take m s) ≤ k = omega (arith, length-take m s) in
+    ap (padTo n) (drop-of-length-le (take m s) h) ∙ pad-nil n
 
-pub load-more : (s X N : List ℕ) (i : ℕ) → 0 < i → i ≤ 64 → i ≤ length s → X ≡ padTo 64 (drop i (take 64 s)) → N ≡ shiftUp (getD s (i - 1) 0) X
-    → N ≡ padTo 64 (drop (i - 1) (take 64 s))
-load-more s X N zero p l h eX eN = absurd (omega arith)
-load-more s X N (suc i) p l h eX eN =
+pub load-more : (n m i : ℕ) (s X N : List ℕ) → 0 < i → i ≤ m → i ≤ length s → X ≡ padTo n (drop i (take m s)) → N ≡ shiftUp (getD s (i - 1) 0) X
+    → N ≡ padTo n (drop (i - 1) (take m s))
+load-more n m zero s X N p l h eX eN = absurd (omega arith)
+load-more n m (suc i) s X N p l h eX eN =
     let e : suc i - 1 ≡ i = omega arith in
-    let t : i < length (take 64 s) = omega (arith, length-take 64 s) in
-    eN ∙ ap₂ (λ (k : ℕ) (u : List ℕ). shiftUp (getD s k 0) u) e eX ∙ pad-up 64 (getD s i 0) (drop (suc i) (take 64 s))
-    ∙ ap (λ (c : ℕ). padTo 64 (c ∷ drop (suc i) (take 64 s))) (sym (getD-take 64 s i 0 l))
-    ∙ ap (padTo 64) (sym (drop-cons (take 64 s) i 0 t) ∙ ap (λ (k : ℕ). drop k (take 64 s)) (sym e))
+    let t : i < length (take m s) = omega (arith, length-take m s) in
+    eN ∙ ap₂ (λ (k : ℕ) (u : List ℕ). shiftUp (getD s k 0) u) e eX ∙ pad-up n (getD s i 0) (drop (suc i) (take m s))
+    ∙ ap (λ (c : ℕ). padTo n (c ∷ drop (suc i) (take m s))) (sym (getD-take m s i 0 l))
+    ∙ ap (padTo n) (sym (drop-cons (take m s) i 0 t) ∙ ap (λ (k : ℕ). drop k (take m s)) (sym e))
+
+-- all of the n cells from k on, or as many as there are
+pub load-all : (n k i : ℕ) (s : List ℕ) → i ≡ min k (length s) → padTo n (drop i (take (k + n) s)) ≡ padTo n (drop k s)
+load-all n k i s e =
+    ⊎-elim
+    (λ l.
+    let q : i ≡ k = omega arith in
+    ap (λ (j : ℕ). padTo n (drop j (take (k + n) s))) q ∙ ap (padTo n) (ap (drop k) (take-add k n s) ∙ drop-at (take k s) (take n (drop k s)) k (length-take-le k s (omega arith))) ∙ pad-take n (drop k s))
+    (λ g.
+    let short : length (take (k + n) s) ≤ i = omega (arith, length-take (k + n) s) in
+    ap (padTo n) (drop-of-length-le (take (k + n) s) short ∙ sym (drop-of-length-le s g)))
+    (lt-or-ge k (length s))
+
+-- eight cells at a time
+chunks : ℕ → ℕ → List ℕ → List ℕ
+chunks zero k s = []
+chunks (suc m) k s = padTo 8 (drop k s) ++ chunks m (k + 8) s
+
+pad-split : (m n : ℕ) (s : List ℕ) → padTo m s ++ padTo n (drop m s) ≡ padTo (m + n) s
+unfolding padTo
+pad-split zero n s = ap (λ (k : ℕ). padTo k s) (sym (zero-add n))
+pad-split (suc m) n [] =
+    ap (λ (t : List ℕ). 0 ∷ t) (ap (λ (t : List ℕ). padTo m [] ++ padTo n t) (sym (drop-nil m)) ∙ pad-split m n [])
+    ∙ ap (λ (k : ℕ). padTo k []) (sym (suc-add m n))
+pad-split (suc m) n (x ∷ s) = ap (λ (t : List ℕ). x ∷ t) (pad-split m n s) ∙ ap (λ (k : ℕ). padTo k (x ∷ s)) (sym (suc-add m n))
+
+chunks-pad : (m k : ℕ) (s : List ℕ) → chunks m k s ≡ padTo (8 * m) (drop k s)
+unfolding chunks padTo
+chunks-pad zero k s = refl
+chunks-pad (suc m) k s =
+    let e : 8 + 8 * m ≡ 8 * suc m = omega arith in
+    ap (λ (t : List ℕ). padTo 8 (drop k s) ++ t) (chunks-pad m (k + 8) s ∙ ap (padTo (8 * m)) (sym (drop-drop 8 k s)))
+    ∙ pad-split 8 (8 * m) (drop k s)
+    ∙ ap (λ (n : ℕ). padTo n (drop k s)) e
+
+pub load-words : (x : Register) (s : List ℕ) → bytesFrom 8 0 (x .w0) ≡ padTo 8 (drop 0 s) → bytesFrom 8 0 (x .w1) ≡ padTo 8 (drop 8 s)
+    → bytesFrom 8 0 (x .w2) ≡ padTo 8 (drop 16 s) → bytesFrom 8 0 (x .w3) ≡ padTo 8 (drop 24 s) → bytesFrom 8 0 (x .w4) ≡ padTo 8 (drop 32 s)
+    → bytesFrom 8 0 (x .w5) ≡ padTo 8 (drop 40 s) → bytesFrom 8 0 (x .w6) ≡ padTo 8 (drop 48 s) → bytesFrom 8 0 (x .w7) ≡ padTo 8 (drop 56 s)
+    → cells x ≡ padTo 64 s
+unfolding cells chunks
+load-words x s a b c d e f g h = cong8 a b c d e f g h ∙ chunks-pad 8 0 s
+
+pub no-cells : bytesFrom 8 0 0 ≡ replicate 8 0
+unfolding byte
+no-cells = refl
 
 -- ---- cells moved down
 

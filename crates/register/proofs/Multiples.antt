@@ -11,7 +11,6 @@ use lib.Pow.{split}
 use lib.ListN.{length, getD, replicate}
 use Rattle.code.specs.Poly.{padd, pscale}
 use Rattle.code.proofs.Poly.{pscale-add, pscale-mul, pscale-one, pscale-zero, padd-assoc}
-use Rattle.field.proofs.Sum.{add-comm}
 use Rattle.field.specs.Field.{add, mul, mulBits, double}
 use Rattle.lists.proofs.Test.{all-at}
 use Rattle.register.specs.Words.{cells}
@@ -91,16 +90,14 @@ high-rows-law P A B C D T n h ea eb ec ed et =
     et ∙ ap (pscale n) (ed ∙ ap (pscale 2) (ec ∙ ap (pscale 2) (eb ∙ ap (pscale 2) ea)) ∙ sixteen-fold P)
     ∙ pscale-mul n 16 P ∙ ap (λ (k : ℕ). pscale k P) (high-product n h)
 
-halves : (f : ℕ) → add (f % 16) (16 * (f / 16)) ≡ f
+halves : (f : ℕ) → add (16 * (f / 16)) (f % 16) ≡ f
 unfolding add
-halves f =
-    add-comm (f % 16) (16 * (f / 16)) ∙ ap (λ (k : ℕ). bitXor k (f % 16)) (ℕ-mul-comm 16 (f / 16))
-    ∙ xor-shifted (f / 16) 4 (f % 16) (mod-lt f (omega arith)) ∙ split f 4
+halves f = ap (λ (k : ℕ). bitXor k (f % 16)) (ℕ-mul-comm 16 (f / 16)) ∙ xor-shifted (f / 16) 4 (f % 16) (mod-lt f (omega arith)) ∙ split f 4
 
 -- a sum with the rows of the two halves of f is a sum with f times P
-pub rows-sum : (P S L H A N : List ℕ) (f : ℕ) → L ≡ pscale (f % 16) P → H ≡ pscale (16 * (f / 16)) P → A ≡ padd S L → N ≡ padd A H → N ≡ padd S (pscale f P)
+pub rows-sum : (P S L H A N : List ℕ) (f : ℕ) → L ≡ pscale (f % 16) P → H ≡ pscale (16 * (f / 16)) P → A ≡ padd S H → N ≡ padd A L → N ≡ padd S (pscale f P)
 rows-sum P S L H A N f eL eH eA eN =
     eN
-    ∙ ap₂ padd (eA ∙ ap (padd S) eL) eH
-    ∙ padd-assoc S (pscale (f % 16) P) (pscale (16 * (f / 16)) P)
-    ∙ ap (padd S) (pscale-add (f % 16) (16 * (f / 16)) P ∙ ap (λ (k : ℕ). pscale k P) (halves f))
+    ∙ ap₂ padd (eA ∙ ap (padd S) eH) eL
+    ∙ padd-assoc S (pscale (16 * (f / 16)) P) (pscale (f % 16) P)
+    ∙ ap (padd S) (pscale-add (16 * (f / 16)) (f % 16) P ∙ ap (λ (k : ℕ). pscale k P) (halves f))

@@ -2,10 +2,9 @@
 -- The check cells of document 01 (B3) are what `feeds` leaves; the law that says so is proofs/Remainder.antt#check-cells.
 use mathlib.Core.List.{List, [], _∷_, _++_}
 use Prim.Native.Nat.{ℕ, zero, suc, _-_}
-use lib.ListN.{getD, take, replicate}
+use lib.ListN.{getD, take, drop, replicate}
 use Rattle.field.specs.Field.{add, inverse}
 use Rattle.code.specs.Poly.{padd, pscale}
-use Rattle.code.specs.Code.{generator}
 use Rattle.code.specs.Run.{tail}
 
 -- every cell moves up by one; c comes in below, and the last is lost
@@ -38,6 +37,10 @@ padTo zero l = []
 padTo (suc n) [] = 0 ∷ padTo n []
 padTo (suc n) (x ∷ l) = x ∷ padTo n l
 
+-- the monic list of r + 1 cells whose low r are the highest of a register's
+abbrev pub monicOf : ℕ → List ℕ → List ℕ
+monicOf r G = drop (64 - r) (G ++ (1 ∷ []))
+
 -- the generator of the step back: the cells above the lowest, each divided by the lowest
-unfoldable pub backGenerator : ℕ → ℕ → List ℕ
-backGenerator b r = pscale (inverse (getD (generator b r) 0 0)) (tail (generator b r))
+unfoldable pub backGenerator : List ℕ → List ℕ
+backGenerator g = pscale (inverse (getD g 0 0)) (tail g)

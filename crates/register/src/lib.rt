@@ -4,11 +4,15 @@ ghost use mathlib.Core.Path.{_≡_};
 ghost use Prim.Native.Nat.{ℕ, _<_, _≤_, _*_, _-_, _/_, _%_, _^_, min};
 ghost use lib.Dec.{eqb};
 ghost use lib.ListN.{getD, take, drop, replicate};
+ghost use Rattle.field.specs.Field.{add};
 ghost use Rattle.code.specs.Poly.{padd, pscale};
 ghost use Rattle.code.specs.Code.{generator};
 ghost use Rattle.code.specs.Search.{extent};
 ghost use Rattle.register.specs.Words.{cells, byte, bytesFrom};
-ghost use Rattle.register.specs.Register.{shiftUp, shiftDown, feeds, padTo, onTop, backGenerator};
+ghost use Rattle.register.specs.Doubles.{DoublesOf};
+ghost use Rattle.register.specs.Register.{shiftUp, shiftDown, feeds, padTo, onTop, monicOf, backGenerator};
+
+use word::Doubles;
 
 mod word;
 
@@ -102,11 +106,11 @@ pub fn shift_down(x: Register) -> Register
     push_top(x, 0)
 }
 
-/// The highest cell.
-pub fn top(x: Register) -> u8
-    ensures { λ r. ⌜ r ≡ getD (cells x) 63 0 ⌝ }
+/// The feedback of division: the sum of the highest cell and the cell that comes in, as an index.
+pub fn feedback(x: Register, c: u8) -> usize
+    ensures { λ f. ⌜ (f ≡ add (getD (cells x) 63 0) c) × (f < 256) ⌝ }
 {
-    (x.w7 >> 56) as u8
+    ((x.w7 >> 56) as usize) ^ (c as usize)
 }
 
 /// The lowest cell, as an index.
@@ -177,45 +181,68 @@ pub fn high_rows(x: Register) -> [Register; 16]
     rows(twice(twice(twice(twice(x)))))
 }
 
-// The register after all cells of the input, from the last to the first; at each the rows of the two halves of the feedback are added.
-fn fed(p: Register, input: &[u8]) -> Register
-    ensures { λ r. ⌜ cells r ≡ feeds 64 (cells p) (now (input .entry)) ⌝ }
+/// The register after all cells of the input, from the last to the first, with g as the low cells of the generator: the rows of the two
+/// halves of each feedback are added. The sum with the low half is last, since its row is found a little later.
+pub fn divide(g: Register, input: &[u8]) -> Register
+    ensures { λ r. ⌜ cells r ≡ feeds 64 (cells g) (now (input .entry)) ⌝ }
 {
-    let low = rows(p);
-    let high = high_rows(p);
+    let low = rows(g);
+    let high = high_rows(g);
     let mut x = blank();
     let mut i = input.len();
     while 0 < i {
         i -= 1;
-        let f = word::wide(top(x) ^ input[i]);
-        let next = add(add(shift_up(x), low[f % 16]), high[f / 16]);
+        let f = feedback(x, input[i]);
+        let next = add(add(shift_up(x), high[f / 16]), low[f % 16]);
         x = next;
     }
     x
+}
+
+fn least(m: usize, n: usize) -> usize
+    ensures { λ r. ⌜ r ≡ min m n ⌝ }
+{
+    if m < n {
+        return m;
+    }
+    n
 }
 
 // A count of cells, at most the 64 that a register has.
 fn clamp(r: usize) -> usize
     ensures { λ n. ⌜ n ≡ min r 64 ⌝ }
 {
-    if r < 64 {
-        return r;
+    least(r, 64)
+}
+
+// Eight cells of a slice as a word, from cell k on, with zeros where it has fewer.
+fn load_word(s: &[u8], k: usize) -> u64
+    requires { ⌜ k ≤ 56 ⌝ }
+    ensures { λ w. ⌜ bytesFrom 8 0 w ≡ padTo 8 (drop k (now (s .entry))) ⌝ }
+{
+    let mut w: u64 = 0;
+    let mut i = least(s.len(), k + 8);
+    while k < i {
+        i -= 1;
+        w = word::word_up(w, word::at_top(s[i]));
     }
-    64
+    w
 }
 
 /// The first 64 cells of a slice from the lowest cell on, with zeros where it has fewer.
 pub fn load(s: &[u8]) -> Register
     ensures { λ r. ⌜ cells r ≡ padTo 64 (now (s .entry)) ⌝ }
 {
-    let mut x = blank();
-    let mut i = clamp(s.len());
-    while 0 < i {
-        i -= 1;
-        let next = push_bottom(x, s[i]);
-        x = next;
+    Register {
+        w0: load_word(s, 0),
+        w1: load_word(s, 8),
+        w2: load_word(s, 16),
+        w3: load_word(s, 24),
+        w4: load_word(s, 32),
+        w5: load_word(s, 40),
+        w6: load_word(s, 48),
+        w7: load_word(s, 56),
     }
-    x
 }
 
 /// The register with the given cells.
@@ -334,11 +361,10 @@ pub fn is_zero(x: Register) -> bool
     extent(x) == 0
 }
 
-/// Each cell times a.
-pub fn scale(a: u8, x: Register) -> Register
-    ensures { λ r. ⌜ cells r ≡ pscale a (cells x) ⌝ }
+// Each cell times a, of which the doubles are given.
+fn scale_by(d: Doubles, x: Register) -> Register
+    ensures { λ r. ⌜ ((a : ℕ) → DoublesOf a d → cells r ≡ pscale a (cells x)) ⌝ }
 {
-    let d = word::doubles_of(a);
     Register {
         w0: word::word_scale(d, x.w0),
         w1: word::word_scale(d, x.w1),
@@ -351,6 +377,13 @@ pub fn scale(a: u8, x: Register) -> Register
     }
 }
 
+/// Each cell times a.
+pub fn scale(a: u8, x: Register) -> Register
+    ensures { λ r. ⌜ cells r ≡ pscale a (cells x) ⌝ }
+{
+    scale_by(word::doubles_of(a), x)
+}
+
 /// The low r cells of the generator with the roots α^b, α^(b+1), .. as the highest of the register; r counts as at most 64. Each root a makes
 /// of the cells G the sum of G and a times G moved down by one, with 1 on top.
 pub fn generator_top(b: usize, r: usize) -> Register
@@ -358,40 +391,23 @@ pub fn generator_top(b: usize, r: usize) -> Register
 {
     let n = clamp(r);
     let mut g = blank();
-    let mut a = field::alpha_power(b);
+    let mut d = word::doubles_of(field::alpha_power(b));
     let mut i: usize = 0;
     while i < n {
-        let next = add(g, scale(a, push_top(g, 1)));
+        let next = add(g, scale_by(d, push_top(g, 1)));
         g = next;
-        a = field::double(a);
+        let twofold = word::next_doubles(d);
+        d = twofold;
         i += 1;
     }
     g
 }
 
-/// The generator of the step back as the lowest cells of the register; r counts as at most 64. The cells above the lowest are kept in the
-/// register and the lowest apart, and at the end each is divided by it.
-pub fn generator_bottom(b: usize, r: usize) -> Register
-    ensures { λ z. ⌜ cells z ≡ padTo 64 (backGenerator b (min r 64)) ⌝ }
+/// The generator of the step back as the lowest cells of the register, from the r low cells of a generator as the highest of g: its cells above the
+/// lowest, each divided by the lowest; r counts as at most 64.
+pub fn generator_bottom(g: Register, r: usize) -> Register
+    ensures { λ z. ⌜ cells z ≡ padTo 64 (backGenerator (monicOf (min r 64) (cells g))) ⌝ }
 {
-    let n = clamp(r);
-    let mut g = blank();
-    let mut c: u8 = 1;
-    let mut a: u8 = field::alpha_power(b);
-    let mut i: usize = 0;
-    while i < n {
-        let next = add(push_bottom(g, c), scale(a, g));
-        g = next;
-        c = field::multiply(a, c);
-        a = field::double(a);
-        i += 1;
-    }
-    scale(field::inverse(c), g)
-}
-
-/// What division by the generator leaves of the message cells, moved up by r: the check cells as the highest of the register.
-pub fn check_cells(b: usize, r: usize, message: &[u8]) -> Register
-    ensures { λ z. ⌜ cells z ≡ onTop (min r 64) (feeds (min r 64) (generator b (min r 64)) (now (message .entry))) ⌝ }
-{
-    fed(generator_top(b, r), message)
+    let c = bottom(lowered(g, r)) as u8;
+    scale(field::inverse(c), lowered(push_top(g, 1), r))
 }

@@ -2,6 +2,7 @@
 // and masks keep sums, so what they do to the cells is settled at the 64 powers of two.
 ghost use mathlib.Core.Path.{_≡_};
 ghost use Prim.Native.Nat.{ℕ, _<_, _≤_};
+ghost use Rattle.field.specs.Field.{mul};
 ghost use Rattle.code.specs.Poly.{pscale};
 ghost use Rattle.code.specs.Search.{extent};
 ghost use Rattle.register.specs.Words.{byte, bytesFrom};
@@ -20,13 +21,6 @@ pub fn at_bottom(c: u8) -> u64
     ensures { λ r. ⌜ byte r 0 ≡ c ⌝ }
 {
     c as u64
-}
-
-// A byte as an index.
-pub fn wide(x: u8) -> usize
-    ensures { λ r. ⌜ (r ≡ x) × (r < 256) ⌝ }
-{
-    x as usize
 }
 
 // A word moved up by a cell; the highest cell of the word below comes in.
@@ -89,6 +83,23 @@ pub fn doubles_of(a: u8) -> Doubles
         c4,
         c5,
         c6,
+        c7,
+    }
+}
+
+// The doubles of 2 a, from those of a: each moves down by one place.
+pub fn next_doubles(d: Doubles) -> Doubles
+    ensures { λ e. ⌜ ((a : ℕ) → DoublesOf a d → DoublesOf (mul 2 a) e) ⌝ }
+{
+    let c7 = field::double(d.c7);
+    Doubles {
+        c0: d.c1,
+        c1: d.c2,
+        c2: d.c3,
+        c3: d.c4,
+        c4: d.c5,
+        c5: d.c6,
+        c6: d.c7,
         c7,
     }
 }

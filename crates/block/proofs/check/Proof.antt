@@ -21,22 +21,25 @@ returns-2 c = check-two _ _ (sym (c .before .before .before .in-range .ensures) 
 valid : (c : tie.Else2) → inRange (c .before .before .before .before .before .args .p) ≡ true
 valid c = sym (c .before .before .before .in-range .ensures) ∙ not-false _ (c .before .before .if1 .left)
 
+generator-of-requires : tie.Need-generator-of-requires
+generator-of-requires c κs = in-range _ .0 (valid c)
+
 remainder-of-requires : tie.Need-remainder-of-requires
-remainder-of-requires c κs = (in-range _ .0 (valid c), c .if2 .left)
+remainder-of-requires c κs = (in-range _ .0 (valid (c .before)), (c .generator-of .ensures, c .before .if2 .left))
 
 extent-requires : tie.Need-extent-requires
 extent-requires c κs = search needs
 
 returns-3 : tie.Need-returns-3
 returns-3 c =
-    let v = valid (c .before .before .before) in
-    check-rest _ _ v (c .before .before .before .if2 .left) true
+    let v = valid (c .before .before .before .before) in
+    check-rest _ _ v (c .before .before .before .before .if2 .left) true
     (sym (extent-clean _ (in-range _ .0 v) _ _ _ (c .before .before .remainder-of .ensures) (c .before .extent .ensures)) ∙ eq-eqb _ 0 (c .if3 .taken))
 
 returns-4 : tie.Need-returns-4
 returns-4 c =
-    let v = valid (c .before .before .before) in
-    check-rest _ _ v (c .before .before .before .if2 .left) false
+    let v = valid (c .before .before .before .before) in
+    check-rest _ _ v (c .before .before .before .before .if2 .left) false
     (sym (extent-clean _ (in-range _ .0 v) _ _ _ (c .before .before .remainder-of .ensures) (c .before .extent .ensures)) ∙ ne-eqb _ 0 (c .if3 .left))
 
 pub check-spec : {M : Type 1} → statement M
@@ -46,6 +49,7 @@ check-spec =
     in-range-requires
     returns
     returns-2
+    generator-of-requires
     remainder-of-requires
     extent-requires
     returns-3

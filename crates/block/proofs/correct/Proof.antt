@@ -36,8 +36,11 @@ valid c = sym (c .before .before .before .before .before .in-range .ensures) ∙
 fitting : (c : tie.Else3) → correctFits (c .before .before .before .before .before .before .before .before .args .p) (c .before .before .before .before .before .before .before .before .args .read .now) (c .before .before .before .before .before .before .before .before .args .out .now) ≡ true
 fitting c = correct-fits _ _ _ (c .before .before .if2 .left) (c .if3 .left)
 
+generator-of-requires : tie.Need-generator-of-requires
+generator-of-requires c κs = in-range _ .0 (valid c)
+
 remainder-of-requires : tie.Need-remainder-of-requires
-remainder-of-requires c κs = (in-range _ .0 (valid c), c .before .before .if2 .left)
+remainder-of-requires c κs = (in-range _ .0 (valid (c .before)), (c .generator-of .ensures, c .before .before .before .if2 .left))
 
 extent-requires : tie.Need-extent-requires
 extent-requires c κs = search needs
@@ -50,25 +53,28 @@ same-length c = search needs
 
 returns-4 : tie.Need-returns-4
 returns-4 c =
-    let s = c .before .before .before .before .before .before .before .before .before .before .before .before .before .before .before in
-    let e = c .before .before .before .before .before .before .before in
+    let e = c .before .before .before .before .before .before .before .before in
+    let s = e .before .before .before .before .before .before .before .before in
     let y : List ℕ = s .args .read .now in
     let v = in-range _ .0 (valid e) in
-    let h : Cells (s .args .p) y = record { count = c .before .before .before .before .before .before .before .before .before .if2 .left; bytes = bytes-of y (λ i. omega (arith, c .before .before .before .before .before .before .before .before .before .before .before .before .before .before .shared-slice-known .given i)) } in
+    let h : Cells (s .args .p) y = record { count = e .before .before .if2 .left; bytes = bytes-of y (λ i. omega (arith, e .before .before .before .before .before .before .before .shared-slice-known .given i)) } in
     let t = sym (extent-clean _ v y _ _ (c .before .before .before .before .before .before .remainder-of .ensures) (c .before .before .before .before .before .extent .ensures)) ∙ eq-eqb _ 0 (c .before .before .before .before .if4 .taken) in
-    let o = outcome-clean (s .args .p) y (s .args .out .now) _ v h t (e .if3 .left ∙ sym (c .before .before .before .before .before .before .before .before .before .if2 .left)) (c .before .before .copy .ensures .1) in
+    let o = outcome-clean (s .args .p) y (s .args .out .now) _ v h t (e .if3 .left ∙ sym (e .before .before .if2 .left)) (c .before .before .copy .ensures .1) in
     correct-rest _ _ _ (valid e) (fitting e) _ _ (o .0) (o .1)
 
 correct-errors-requires : tie.Need-correct-errors-requires
 correct-errors-requires c κs =
-    let e = c .before .before .before .before in
+    let e = c .before .before .before .before .before in
     let v = in-range _ .0 (valid e) in (
       v,
       (
-        (c .before .before .before .before .before .before .if2 .left, e .if3 .left),
+        c .before .before .before .before .generator-of .ensures,
         (
-          c .before .before .before .remainder-of .ensures,
-          sym (extent-clean _ v _ _ _ (c .before .before .before .remainder-of .ensures) (c .before .before .extent .ensures)) ∙ ne-eqb _ 0 (c .before .if4 .left),
+          (e .before .before .if2 .left, e .if3 .left),
+          (
+            c .before .before .before .remainder-of .ensures,
+            sym (extent-clean _ v _ _ _ (c .before .before .before .remainder-of .ensures) (c .before .before .extent .ensures)) ∙ ne-eqb _ 0 (c .before .if4 .left),
+          ),
         ),
       ),
     )
@@ -78,7 +84,7 @@ same-length-2 c = search needs
 
 returns-5 : tie.Need-returns-5
 returns-5 c =
-    let e = c .before .before .before .before .before .before .before in
+    let e = c .before .before .before .before .before .before .before .before in
     correct-rest _ _ _ (valid e) (fitting e) _ _ (c .before .before .correct-errors .ensures .0) (c .before .before .correct-errors .ensures .1)
 
 pub correct-spec : {M : Type 1} → statement M
@@ -89,6 +95,7 @@ correct-spec =
     returns
     returns-2
     returns-3
+    generator-of-requires
     remainder-of-requires
     extent-requires
     copy-requires

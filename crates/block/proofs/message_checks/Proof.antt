@@ -8,8 +8,8 @@ use Rattle.block.proofs.Entries.{checks-law}
 use Rattle.block.proofs.message_checks.Statement.{statement}
 use Rattle.block.proofs.message_checks.Tie as tie
 
-check-cells-requires : tie.Need-check-cells-requires
-check-cells-requires c κs = search needs
+divide-requires : tie.Need-divide-requires
+divide-requires c κs = search needs
 
 lowered-requires : tie.Need-lowered-requires
 lowered-requires c κs = search needs
@@ -17,8 +17,9 @@ lowered-requires c κs = search needs
 returns : tie.Need-returns
 returns c =
     let m : List ℕ = c .before .before .before .args .message .now in
-    checks-law _ (c .before .before .before .pre .0) m _ _ (bytes-of m (λ i. omega (arith, c .before .before .shared-slice-known .given i)))
-    (c .before .check-cells .ensures) (c .lowered .ensures)
+    let s = c .before .before .before in
+    checks-law _ (s .pre .0) m _ _ _ (bytes-of m (λ i. omega (arith, c .before .before .shared-slice-known .given i)))
+    (s .pre .1 .0) (c .before .divide .ensures) (c .lowered .ensures)
 
 pub message-checks-spec : {M : Type 1} → statement M
-message-checks-spec = tie.close (tie.spec check-cells-requires lowered-requires returns)
+message-checks-spec = tie.close (tie.spec divide-requires lowered-requires returns)

@@ -20,7 +20,7 @@ part-message-checks-end : tie.Need-part-message-checks-end
 part-message-checks-end c = search needs
 
 message-checks-requires : tie.Need-message-checks-requires
-message-checks-requires c κs = search needs
+message-checks-requires c κs = (c .before .before .pre .0, (c .before .before .pre .1 .0, search needs))
 
 slice-aggregate-load : tie.Need-slice-aggregate-load
 slice-aggregate-load c = sym (length-take-le _ _ (omega (arith, c .before .before .before .before .pre .0 .r-below)))
@@ -35,7 +35,7 @@ returns : tie.Need-returns
 returns c =
     let s = c .before .before .before .before .before .before in
     let y : List ℕ = s .args .read .now in
-    remainder-law (s .args .p) (s .pre .0) y _ _ _ (s .pre .1) (bytes-of y (λ i. omega (arith, c .before .before .before .before .before .shared-slice-known .given i)))
+    remainder-law (s .args .p) (s .pre .0) y _ _ _ (s .pre .1 .1) (bytes-of y (λ i. omega (arith, c .before .before .before .before .before .shared-slice-known .given i)))
     (c .before .load .ensures) (c .before .before .before .message-checks .ensures) (c .add .ensures)
 
 pub remainder-of-spec : {M : Type 1} → statement M

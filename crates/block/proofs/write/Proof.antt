@@ -36,24 +36,27 @@ valid c = sym (c .before .before .before .before .before .in-range .ensures) ∙
 sized : (c : tie.Else3) → length (c .before .before .before .before .before .before .before .before .args .message .now) ≡ messageLength (c .before .before .before .before .before .before .before .before .args .p)
 sized c = c .before .before .if2 .left ∙ c .before .before .before .message-length .ensures
 
+generator-of-requires : tie.Need-generator-of-requires
+generator-of-requires c κs = in-range _ .0 (valid c)
+
 message-checks-requires : tie.Need-message-checks-requires
-message-checks-requires c κs = (in-range _ .0 (valid c), sized c)
+message-checks-requires c κs = (in-range _ .0 (valid (c .before)), (c .generator-of .ensures, sized (c .before)))
 
 low-cells-requires : tie.Need-low-cells-requires
 low-cells-requires c κs = search needs
 
 lay-out-requires : tie.Need-lay-out-requires
 lay-out-requires c κs =
-    let e = c .before .before .before in
+    let e = c .before .before .before .before in
     let v = in-range _ .0 (valid e) in
-    (v .r-most, omega (arith, sized e, c .before .before .before .if3 .left, v .r-below))
+    (v .r-most, omega (arith, sized e, e .if3 .left, v .r-below))
 
 same-length : tie.Need-same-length
 same-length c = search needs
 
 returns-4 : tie.Need-returns-4
 returns-4 c =
-    let e = c .before .before .before .before .before .before in
+    let e = c .before .before .before .before .before .before .before in
     let d = write-done _ _ _ (valid e) (write-fits _ _ _ (sized e) (e .if3 .left)) in
     (d .0, c .before .before .lay-out .ensures ∙ encode-law _ (in-range _ .0 (valid e)) _ _ (c .before .before .before .before .low-cells .ensures ∙ c .before .before .before .before .before .message-checks .ensures) ∙ d .1)
 
@@ -66,6 +69,7 @@ write-spec =
     message-length-requires
     returns-2
     returns-3
+    generator-of-requires
     message-checks-requires
     low-cells-requires
     lay-out-requires

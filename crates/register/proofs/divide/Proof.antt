@@ -10,8 +10,8 @@ use Rattle.register.specs.declared.Register.{Register}
 use Rattle.register.proofs.Cells.{cells-bytes}
 use Rattle.code.proofs.Poly.{pscale-one}
 use Rattle.register.proofs.Forward.{feed-law, feeds-more, feeds-none}
-use Rattle.register.proofs.fed.Statement.{statement}
-use Rattle.register.proofs.fed.Tie as tie
+use Rattle.register.proofs.divide.Statement.{statement}
+use Rattle.register.proofs.divide.Tie as tie
 
 abbrev Inv-loop : tie.InvT-loop
 Inv-loop input low high x₀ i₀ x i = (i ≤ length input) × (cells x ≡ feeds 64 (cells (getD low 1 x₀)) (drop i input))
@@ -34,14 +34,11 @@ loop-holds c = (omega arith, c .blank .ensures ∙ sym (feeds-none 64 _ (c .befo
 sub-i : tie.Need-sub-i Inv-loop μ-loop
 sub-i c = omega arith
 
-top-requires : tie.Need-top-requires Inv-loop μ-loop
-top-requires c κs = tt
+shared-slice-read-feedback : tie.Need-shared-slice-read-feedback Inv-loop μ-loop
+shared-slice-read-feedback c = omega arith
 
-shared-slice-read-wide : tie.Need-shared-slice-read-wide Inv-loop μ-loop
-shared-slice-read-wide c = omega arith
-
-wide-requires : tie.Need-wide-requires Inv-loop μ-loop
-wide-requires c κs = tt
+feedback-requires : tie.Need-feedback-requires Inv-loop μ-loop
+feedback-requires c κs = tt
 
 shift-up-requires : tie.Need-shift-up-requires Inv-loop μ-loop
 shift-up-requires c κs = tt
@@ -69,17 +66,20 @@ loop-less c = omega arith
 
 loop-again : tie.Need-loop-again Inv-loop μ-loop
 loop-again c =
-    let l = c .before .before .before .before .before .before .before .before .before .loop in
-    let p : Register = c .before .before .before .before .before .before .before .before .before .before .before .before .before .before .args .p in
-    let s : List ℕ = c .before .before .before .before .before .before .before .before .before .before .before .before .before .before .args .input .now in
+    let l = c .before .before .before .before .before .before .before .before .loop in
+    let a = c .before .before .before .before .before .before .before .before .before .before .before .before .before in
+    let p : Register = a .args .g in
+    let s : List ℕ = a .args .input .now in
     let x : ℕ = getD s (l .i - 1) 0 in
-    let f : ℕ = c .before .before .before .before .before .wide .result in
-    let G : List ℕ = cells (getD (c .before .before .before .before .before .before .before .before .before .before .before .before .rows .result) 1 (c .before .before .before .before .before .before .before .before .before .before .blank .result)) in
-    let one : G ≡ cells p = c .before .before .before .before .before .before .before .before .before .before .before .before .rows .ensures _ 1 (omega arith) ∙ pscale-one _ (cells-bytes p) in (
+    let low = c .before .before .before .before .before .before .before .before .before .before .before .rows in
+    let fed = c .before .before .before .before .before .feedback in
+    let f : ℕ = fed .result in
+    let G : List ℕ = cells (getD (low .result) 1 (c .before .before .before .before .before .before .before .before .before .blank .result)) in
+    let one : G ≡ cells p = low .ensures _ 1 (omega arith) ∙ pscale-one _ (cells-bytes p) in (
       omega arith,
-      feed-law p (cells (l .x)) _ _ _ _ _ (c .before .before .before .before .before .before .before .top .result) x f (c .before .before .before .before .before .before .before .top .ensures) (c .before .before .before .before .before .wide .ensures .0) (c .before .before .before .before .shift-up .ensures)
-          (c .before .before .before .before .before .before .before .before .before .before .before .before .rows .ensures _ (f % 16) (omega arith))
-          (c .before .before .before .before .before .before .before .before .before .before .before .high-rows .ensures _ (f / 16) (omega (arith, c .before .before .before .before .before .wide .ensures .1)))
+      feed-law p (cells (l .x)) _ _ _ _ _ x f (fed .ensures .0) (c .before .before .before .before .shift-up .ensures)
+          (low .ensures _ (f % 16) (omega arith))
+          (c .before .before .before .before .before .before .before .before .before .before .high-rows .ensures _ (f / 16) (omega (arith, fed .ensures .1)))
           (c .before .before .add .ensures)
           (c .add2 .ensures)
           ∙ ap₂ (λ (g t : List ℕ). feed 64 g x t) (sym one) (l .inv .1)
@@ -93,8 +93,8 @@ returns c =
     let one = c .before .before .before .before .rows .ensures (c .before .before .blank .result) 1 (omega arith) ∙ pscale-one _ (cells-bytes _) in
     rw (z, one) at (l .inv .1)
 
-pub fed-spec : {M : Type 1} → statement M
-fed-spec =
+pub divide-spec : {M : Type 1} → statement M
+divide-spec =
     tie.close
     (tie.spec
     Inv-loop
@@ -104,9 +104,8 @@ fed-spec =
     blank-requires
     loop-holds
     sub-i
-    top-requires
-    shared-slice-read-wide
-    wide-requires
+    shared-slice-read-feedback
+    feedback-requires
     shift-up-requires
     mul-add
     array-copy-out-add

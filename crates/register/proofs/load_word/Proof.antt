@@ -1,0 +1,78 @@
+-- The invariant: the word holds the cells from i on of the first k + 8.
+use mathlib.Core.Path.{_≡_, sym, ap, _∙_}
+use mathlib.Core.List.{List}
+use Prim.Native.Nat.{ℕ, _+_, _-_, _≤_, min}
+use native.Mathlib.Omega.{arith}
+use lib.ListN.{length, getD, take, drop}
+use Rattle.register.specs.Words.{bytesFrom}
+use Rattle.register.specs.Register.{shiftUp, padTo}
+use Rattle.register.proofs.Moves.{load-none, load-more, load-all, no-cells}
+use Rattle.register.proofs.load_word.Statement.{statement}
+use Rattle.register.proofs.load_word.Tie as tie
+
+abbrev Inv-loop : tie.InvT-loop
+Inv-loop s k w₀ i₀ w i = (i ≤ length s) × (i ≤ k + 8) × (min k (length s) ≤ i) × (bytesFrom 8 0 w ≡ padTo 8 (drop i (take (k + 8) s)))
+
+abbrev μ-loop : tie.MeasureT-loop
+μ-loop s k w₀ i₀ w i = i
+
+add-least : tie.Need-add-least Inv-loop μ-loop
+add-least c = omega (arith, c .before .pre)
+
+least-requires : tie.Need-least-requires Inv-loop μ-loop
+least-requires c κs = tt
+
+loop-holds : tie.Need-loop-holds Inv-loop μ-loop
+loop-holds c =
+    let a = c .before .before .args in
+    (omega (arith, c .least .ensures), omega (arith, c .least .ensures), omega (arith, c .least .ensures), no-cells ∙ sym (load-none 8 (a .k + 8) _ (a .s .now) (c .least .ensures)))
+
+sub-i : tie.Need-sub-i Inv-loop μ-loop
+sub-i c = omega arith
+
+shared-slice-read-at-top : tie.Need-shared-slice-read-at-top Inv-loop μ-loop
+shared-slice-read-at-top c = omega arith
+
+at-top-requires : tie.Need-at-top-requires Inv-loop μ-loop
+at-top-requires c κs = tt
+
+word-up-requires : tie.Need-word-up-requires Inv-loop μ-loop
+word-up-requires c κs = tt
+
+loop-less : tie.Need-loop-less Inv-loop μ-loop
+loop-less c = omega arith
+
+loop-again : tie.Need-loop-again Inv-loop μ-loop
+loop-again c =
+    let l = c .before .before .before .before .loop in
+    let a = c .before .before .before .before .before .before .before .args in (
+      omega arith,
+      omega arith,
+      omega arith,
+      load-more 8 (a .k + 8) (l .i) (a .s .now) _ _ (omega arith) (l .inv .1) (l .inv .0) (l .inv .3) (c .word-up .ensures ∙ ap (λ (x : ℕ). shiftUp x (bytesFrom 8 0 (l .w))) (c .before .at-top .ensures)),
+    )
+
+returns : tie.Need-returns Inv-loop μ-loop
+returns c =
+    let l = c .before .loop in
+    let a = c .before .before .before .before .args in
+    let s : List ℕ = a .s .now in
+    let e : l .i ≡ min (a .k) (length s) = omega (arith, l .inv .0, l .inv .2) in
+    l .inv .3 ∙ load-all 8 (a .k) (l .i) s e
+
+pub load-word-spec : {M : Type 1} → statement M
+load-word-spec =
+    tie.close
+    (tie.spec
+    Inv-loop
+    μ-loop
+    add-least
+    least-requires
+    loop-holds
+    sub-i
+    shared-slice-read-at-top
+    at-top-requires
+    word-up-requires
+    loop-less
+    loop-again
+    returns)
