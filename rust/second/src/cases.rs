@@ -104,6 +104,20 @@ fn after_plot_7(bytes: &[u8]) -> Vec<u8> {
     [&plots(&[7]), bytes].concat()
 }
 
+/// The longest payload, 4,048 bytes, full of plots 1 to 35.
+fn full() -> Vec<u8> {
+    (1..=35)
+        .flat_map(|plot| record(plot, &lines(if plot < 32 { 37 } else { 36 })))
+        .collect()
+}
+
+/// The longest payload with plots 1 to `last` of no lines, five bytes each.
+fn without_lines(last: u16) -> Vec<u8> {
+    let mut payload: Vec<u8> = (1..=last).flat_map(|plot| record(plot, &[])).collect();
+    payload.resize(4048, 0);
+    payload
+}
+
 /// Payloads with number and place of the checker's answer, 0 and 0 if accepted.
 pub fn payloads() -> Vec<(Vec<u8>, u8, usize)> {
     [
@@ -126,6 +140,8 @@ fn accepted_payloads() -> Vec<(Vec<u8>, u8, usize)> {
         record(9, &lines(40)),
         plots(&[1, 2, 255, 256, 65535]),
         record(7, &[1, 1, 1, 1, 2, 1, 2, 1, 1]),
+        full(),
+        without_lines(809),
     ];
     accepted.map(|payload| (payload, 0, 0)).into()
 }
@@ -199,6 +215,8 @@ pub fn asks() -> Vec<Ask> {
         (three.clone(), 44, Err((9, 0))),
         (three, 65535, Err((9, 0))),
         (record(65535, &[]), 65535, Ok((0, 5))),
+        (full(), 35, Ok((3935, 113))),
+        (without_lines(809), 809, Ok((4040, 5))),
         (vec![], 1, Err((9, 0))),
         (vec![], 0, Err((9, 0))),
         (vec![0; 20], 1, Err((9, 0))),
@@ -228,6 +246,7 @@ fn adds_with_room() -> Vec<Add> {
         (after_plot_7(&[0; 9]), 256, vec![], Ok(8)),
         (vec![0; 125], 9, lines(40), Ok(0)),
         (vec![0; 4048], 9, lines(40), Ok(0)),
+        (without_lines(808), 809, LINE.into(), Ok(4040)),
     ]
 }
 
@@ -264,6 +283,8 @@ fn adds_without_room() -> Vec<Add> {
         (after_plot_7(&[]), 8, vec![1], Err((7, 8))),
         (after_plot_7(&[]), 0, vec![], Err((7, 8))),
         (vec![0; 124], 9, lines(40), Err((10, 0))),
+        (full(), 36, vec![], Err((10, 4048))),
+        (without_lines(809), 810, vec![], Err((10, 4045))),
         (vec![0; 4049], 9, vec![1], Err((2, 0))),
         (vec![0, 0, 1], 9, vec![1], Err((5, 0))),
         (after_plot_7(&[0x50]), 0, vec![1], Err((6, 8))),

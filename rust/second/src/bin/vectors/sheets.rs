@@ -142,17 +142,6 @@ pub fn sheets() -> Vec<Vector> {
     vectors
 }
 
-/// The sheets with operations counted from `first` on.
-pub fn after(first: u8) -> Vec<Vector> {
-    let mut vectors = sheets();
-    for operation in vectors.iter_mut().filter_map(|vector| vector.fields.first_mut()) {
-        if let Field::Byte(number) = operation {
-            *number += first;
-        }
-    }
-    vectors
-}
-
 /// The lister's inputs: those with texts found by hand, then written sheets of plots, damaged within the promise.
 pub fn list_inputs() -> Vec<Vec<u8>> {
     let mut random = Random::new(202);
