@@ -31,13 +31,7 @@ pub fn corrections() -> Vec<Correction> {
         ([9, 14, 7, 0], 3, Err(1)),
     ];
     let row = |(read, limit, expected)| Correction {
-        profile: Profile {
-            n: 4,
-            r: 3,
-            b: 0,
-            limit,
-            depth: 1,
-        },
+        profile: Profile::from([4, 3, 0, limit, 1]),
         read,
         expected,
     };
@@ -46,13 +40,7 @@ pub fn corrections() -> Vec<Correction> {
 
 /// Document 01's written blocks, for n=5, r=2, b=1: profile, message, codeword.
 pub fn written_blocks() -> Vec<(Profile, Vec<u8>, Vec<u8>)> {
-    let profile = Profile {
-        n: 5,
-        r: 2,
-        b: 1,
-        limit: 0,
-        depth: 1,
-    };
+    let profile = Profile::from([5, 2, 1, 0, 1]);
     vec![
         (profile, vec![1, 0, 0], vec![8, 6, 1, 0, 0]),
         (profile, vec![0, 1, 0], vec![48, 28, 0, 1, 0]),
@@ -62,29 +50,40 @@ pub fn written_blocks() -> Vec<(Profile, Vec<u8>, Vec<u8>)> {
 /// Profiles with a number outside its range.
 pub fn profiles_out_of_range() -> Vec<Profile> {
     let rows = [
-        (2, 1, 0, 0, 1),
-        (2, 2, 0, 0, 1),
-        (0, 0, 0, 0, 0),
-        (256, 3, 0, 0, 1),
-        (65535, 3, 0, 0, 1),
-        (4, 1, 0, 0, 1),
-        (4, 0, 0, 0, 1),
-        (4, 4, 0, 0, 1),
-        (4, 5, 0, 0, 1),
-        (255, 65, 0, 0, 1),
-        (4, 3, 255, 0, 1),
-        (4, 3, 256, 0, 1),
-        (4, 3, 65535, 0, 1),
-        (4, 3, 0, 3, 1),
-        (4, 3, 0, 65535, 1),
-        (255, 64, 0, 64, 1),
-        (4, 3, 0, 0, 0),
-        (4, 3, 0, 0, 17),
-        (4, 3, 0, 0, 65535),
+        [2, 1, 0, 0, 1],
+        [2, 2, 0, 0, 1],
+        [0, 0, 0, 0, 0],
+        [256, 3, 0, 0, 1],
+        [65535, 3, 0, 0, 1],
+        [4, 1, 0, 0, 1],
+        [4, 0, 0, 0, 1],
+        [4, 4, 0, 0, 1],
+        [4, 5, 0, 0, 1],
+        [255, 65, 0, 0, 1],
+        [4, 3, 255, 0, 1],
+        [4, 3, 256, 0, 1],
+        [4, 3, 65535, 0, 1],
+        [4, 3, 0, 3, 1],
+        [4, 3, 0, 65535, 1],
+        [255, 64, 0, 64, 1],
+        [4, 3, 0, 0, 0],
+        [4, 3, 0, 0, 17],
+        [4, 3, 0, 0, 65535],
     ];
-    rows.map(|(n, r, b, limit, depth)| Profile { n, r, b, limit, depth })
-        .into()
+    rows.map(Profile::from).into()
 }
+
+/// For n=4, r=3 and D=2: lengths of sheet, scratch and payload, not all of them right.
+pub const WRONG_LENGTHS: [[usize; 3]; 8] = [
+    [7, 8, 2],
+    [9, 8, 2],
+    [8, 7, 2],
+    [8, 9, 2],
+    [8, 8, 1],
+    [8, 8, 3],
+    [4, 4, 1],
+    [0, 0, 0],
+];
 
 /// One tally line: species 3, class 32, count 2.
 const LINE: [u8; 3] = [3, 32, 2];
