@@ -1,12 +1,14 @@
-// Writes, checks and corrects blocks, and writes and reads sheets, that standard input describes, and prints one line of numbers for each. The
-// files stdin and stdout were made by rust/second, which shares no code with the library: `vectors library --bytes` and `vectors library
-// --answers`; rust/second/src/bin/vectors/main.rs says what a vector is. It begins with a byte for the operation (0 correct, 1 write, 2 check a
-// block; 3 write, 4 read a sheet) and the profile as five words; a word is two bytes, the low one first.
+// Runs the library on the vectors of standard input and prints one line of numbers for each. The files stdin and stdout were made by
+// rust/second, which shares no code with the library: `vectors library --bytes` and `vectors library --answers`;
+// rust/second/src/bin/vectors/main.rs says what a vector is. It begins with a byte for the operation (0 correct, 1 write, 2 check a block;
+// 3 write, 4 read a sheet; 5 check a payload, 6 ask it for a plot, 7 add a plot to it); a word is two bytes, the low one first.
 ghost use Prim.Native.Nat.{_<_, _≤_};
 use block::Checked;
 use block::Profile;
 use libc::STDIN_FILENO;
 use libc::STDOUT_FILENO;
+use plot::Added;
+use plot::Located;
 use sheet::Reading;
 
 // ---- reading
@@ -37,14 +39,22 @@ fn operation() -> u8 {
     byte(&one)
 }
 
-fn value(pair: &[u8; 2]) -> usize {
+fn value(pair: &[u8; 2]) -> usize
+    ensures { λ r. ⌜ r < 65536 ⌝ }
+{
     wide(pair[0]) + 256 * wide(pair[1])
 }
 
-fn word() -> usize {
+fn word() -> usize
+    ensures { λ r. ⌜ r < 65536 ⌝ }
+{
     let mut pair = [0u8; 2];
     io::read_full(STDIN_FILENO, &mut pair);
     value(&pair)
+}
+
+fn plot_number() -> u16 {
+    word() as u16
 }
 
 fn profile() -> Profile {
@@ -60,6 +70,19 @@ fn profile() -> Profile {
         limit,
         depth,
     }
+}
+
+// As much of the space as the next word says, at most all of it.
+fn part(space: &mut [u8]) -> &mut [u8] {
+    let n = least(word(), space.len());
+    &mut space[..n]
+}
+
+// The next buffer, its length and then its bytes, read into the space.
+fn buffer(space: &mut [u8]) -> &mut [u8] {
+    let lent = part(space);
+    io::read_full(STDIN_FILENO, lent);
+    lent
 }
 
 // ---- printing
@@ -81,21 +104,33 @@ fn cells(s: &[u8]) {
     }
 }
 
+fn two(x: usize, y: usize) {
+    first(x);
+    next(y);
+}
+
 fn end() {
     io::write_all(STDOUT_FILENO, b"\n");
 }
 
-// ---- the three operations
+// ---- blocks; the second buffer has as many bytes as the stream says, each 170
 
-fn correct(p: Profile, read: &[u8], out: &mut [u8]) {
+fn correct(p: Profile) {
+    let mut space = [0u8; 4096];
+    let read = buffer(&mut space);
+    let mut second = [170u8; 512];
+    let out = part(&mut second);
     let v = block::correct(p, read, out);
-    first(block::verdict_number(v));
-    next(block::verdict_start(v));
+    two(block::verdict_number(v), block::verdict_start(v));
     next(block::verdict_length(v));
     cells(out);
 }
 
-fn write(p: Profile, message: &[u8], out: &mut [u8]) {
+fn write(p: Profile) {
+    let mut space = [0u8; 4096];
+    let message = buffer(&mut space);
+    let mut second = [170u8; 512];
+    let out = part(&mut second);
     first(block::written_number(block::write(p, message, out)));
     cells(out);
 }
@@ -109,97 +144,97 @@ fn is_clean(c: Checked) -> usize {
     }
 }
 
-fn check(p: Profile, read: &[u8]) {
+fn check(p: Profile) {
+    let mut space = [0u8; 4096];
+    let read = buffer(&mut space);
     let c = block::check(p, read);
-    first(block::checked_number(c));
-    next(is_clean(c));
-}
-
-// Correcting (0) or writing, with a second buffer of as many bytes as the stream says, each 170.
-fn with_second(o: u8, p: Profile, lent: &[u8]) {
-    let mut out = [170u8; 512];
-    let n = least(word(), 512);
-    if o == 0 {
-        correct(p, lent, &mut out[..n]);
-    } else {
-        write(p, lent, &mut out[..n]);
-    }
+    two(block::checked_number(c), is_clean(c));
 }
 
 // ---- sheets
 
-fn reading_number(a: Reading) -> usize {
-    match a {
-        Reading::Accepted { changed: _ } => 0,
-        Reading::Refused(r) => r.number(),
-    }
-}
-
-fn reading_value(a: Reading) -> usize {
-    match a {
-        Reading::Accepted { changed } => changed,
-        Reading::Refused(r) => r.place(),
-    }
-}
-
-fn write_sheet(p: Profile, payload: &[u8], sheet: &mut [u8]) {
-    io::read_full(STDIN_FILENO, sheet);
-    first(block::written_number(sheet::write(p, payload, sheet)));
-    next(0);
+fn write_sheet(p: Profile) {
+    let mut first_space = [0u8; 4096];
+    let payload = buffer(&mut first_space);
+    let mut second_space = [0u8; 4096];
+    let sheet = buffer(&mut second_space);
+    two(block::written_number(sheet::write(p, payload, sheet)), 0);
     cells(sheet);
 }
 
-fn read_sheet(p: Profile, sheet: &[u8], scratch: &mut [u8], payload: &mut [u8]) {
-    io::read_full(STDIN_FILENO, payload);
-    let a = sheet::read(p, sheet, scratch, payload);
-    first(reading_number(a));
-    next(reading_value(a));
+fn read_sheet(p: Profile) {
+    let mut first_space = [0u8; 4096];
+    let sheet = buffer(&mut first_space);
+    let mut second_space = [0u8; 4096];
+    let scratch = buffer(&mut second_space);
+    let mut third_space = [0u8; 4096];
+    let payload = buffer(&mut third_space);
+    match sheet::read(p, sheet, scratch, payload) {
+        Reading::Accepted { changed } => two(0, changed),
+        Reading::Refused(r) => two(r.number(), r.place()),
+    }
     cells(scratch);
     cells(payload);
 }
 
-fn with_payload(p: Profile, sheet: &[u8], scratch: &mut [u8]) {
-    io::read_full(STDIN_FILENO, scratch);
-    let mut space = [0u8; 4096];
-    let n = least(word(), 4096);
-    read_sheet(p, sheet, scratch, &mut space[..n]);
+// ---- payloads
+
+fn refused(r: plot::Refusal) {
+    two(wide(plot::number(r)), plot::place(r));
 }
 
-// Writing a sheet (3) or reading one; of each lent buffer the stream has the length and the bytes.
-fn with_buffer(o: u8, p: Profile, lent: &[u8]) {
+fn check_payload() {
     let mut space = [0u8; 4096];
-    let n = least(word(), 4096);
-    if o == 3 {
-        write_sheet(p, lent, &mut space[..n]);
-    } else {
-        with_payload(p, lent, &mut space[..n]);
+    let payload = buffer(&mut space);
+    match plot::check(payload) {
+        plot::Checked::Accepted(c) => two(0, c.at),
+        plot::Checked::Refused(r) => refused(r),
     }
 }
 
-fn run(o: u8, p: Profile, lent: &[u8]) {
-    if o == 2 {
-        check(p, lent);
-    } else {
-        if o < 2 {
-            with_second(o, p, lent);
-        } else {
-            with_buffer(o, p, lent);
+fn ask() {
+    let mut space = [0u8; 4096];
+    let payload = buffer(&mut space);
+    let plot = plot_number();
+    match plot::locate(payload, plot) {
+        Located::At { start, len } => {
+            two(0, start);
+            next(len);
+        }
+        Located::Refused(r) => {
+            refused(r);
+            next(0);
         }
     }
-    end();
+    cells(plot::ask(payload, plot));
 }
 
-fn read_and_run(o: u8, p: Profile, lent: &mut [u8]) {
-    io::read_full(STDIN_FILENO, lent);
-    run(o, p, lent);
+fn add() {
+    let mut first_space = [0u8; 4096];
+    let payload = buffer(&mut first_space);
+    let plot = plot_number();
+    let mut second_space = [0u8; 4096];
+    let lines = buffer(&mut second_space);
+    match plot::add(payload, plot, lines) {
+        Added::At(start) => two(0, start),
+        Added::Refused(r) => refused(r),
+    }
+    cells(payload);
 }
 
-// A vector after its first byte; lent bytes beyond 4096 are not read.
+// A vector after its first byte.
 fn vector(o: u8) {
-    let p = profile();
-    let mut space = [0u8; 4096];
-    let n = least(word(), 4096);
-    read_and_run(o, p, &mut space[..n]);
+    match o {
+        0 => correct(profile()),
+        1 => write(profile()),
+        2 => check(profile()),
+        3 => write_sheet(profile()),
+        4 => read_sheet(profile()),
+        5 => check_payload(),
+        6 => ask(),
+        _ => add(),
+    }
+    end();
 }
 
 // At most 1,000 vectors, so that it ends.

@@ -16,6 +16,13 @@ pub struct Profile {
     pub depth: usize,
 }
 
+impl From<[usize; 5]> for Profile {
+    /// n, r, b, L and D.
+    fn from([n, r, b, limit, depth]: [usize; 5]) -> Profile {
+        Profile { n, r, b, limit, depth }
+    }
+}
+
 impl Profile {
     /// Message bytes in a block.
     pub fn k(&self) -> usize {

@@ -31,13 +31,7 @@ pub fn corrections() -> Vec<Correction> {
         ([9, 14, 7, 0], 3, Err(1)),
     ];
     let row = |(read, limit, expected)| Correction {
-        profile: Profile {
-            n: 4,
-            r: 3,
-            b: 0,
-            limit,
-            depth: 1,
-        },
+        profile: Profile::from([4, 3, 0, limit, 1]),
         read,
         expected,
     };
@@ -46,13 +40,7 @@ pub fn corrections() -> Vec<Correction> {
 
 /// Document 01's written blocks, for n=5, r=2, b=1: profile, message, codeword.
 pub fn written_blocks() -> Vec<(Profile, Vec<u8>, Vec<u8>)> {
-    let profile = Profile {
-        n: 5,
-        r: 2,
-        b: 1,
-        limit: 0,
-        depth: 1,
-    };
+    let profile = Profile::from([5, 2, 1, 0, 1]);
     vec![
         (profile, vec![1, 0, 0], vec![8, 6, 1, 0, 0]),
         (profile, vec![0, 1, 0], vec![48, 28, 0, 1, 0]),
@@ -62,29 +50,40 @@ pub fn written_blocks() -> Vec<(Profile, Vec<u8>, Vec<u8>)> {
 /// Profiles with a number outside its range.
 pub fn profiles_out_of_range() -> Vec<Profile> {
     let rows = [
-        (2, 1, 0, 0, 1),
-        (2, 2, 0, 0, 1),
-        (0, 0, 0, 0, 0),
-        (256, 3, 0, 0, 1),
-        (65535, 3, 0, 0, 1),
-        (4, 1, 0, 0, 1),
-        (4, 0, 0, 0, 1),
-        (4, 4, 0, 0, 1),
-        (4, 5, 0, 0, 1),
-        (255, 65, 0, 0, 1),
-        (4, 3, 255, 0, 1),
-        (4, 3, 256, 0, 1),
-        (4, 3, 65535, 0, 1),
-        (4, 3, 0, 3, 1),
-        (4, 3, 0, 65535, 1),
-        (255, 64, 0, 64, 1),
-        (4, 3, 0, 0, 0),
-        (4, 3, 0, 0, 17),
-        (4, 3, 0, 0, 65535),
+        [2, 1, 0, 0, 1],
+        [2, 2, 0, 0, 1],
+        [0, 0, 0, 0, 0],
+        [256, 3, 0, 0, 1],
+        [65535, 3, 0, 0, 1],
+        [4, 1, 0, 0, 1],
+        [4, 0, 0, 0, 1],
+        [4, 4, 0, 0, 1],
+        [4, 5, 0, 0, 1],
+        [255, 65, 0, 0, 1],
+        [4, 3, 255, 0, 1],
+        [4, 3, 256, 0, 1],
+        [4, 3, 65535, 0, 1],
+        [4, 3, 0, 3, 1],
+        [4, 3, 0, 65535, 1],
+        [255, 64, 0, 64, 1],
+        [4, 3, 0, 0, 0],
+        [4, 3, 0, 0, 17],
+        [4, 3, 0, 0, 65535],
     ];
-    rows.map(|(n, r, b, limit, depth)| Profile { n, r, b, limit, depth })
-        .into()
+    rows.map(Profile::from).into()
 }
+
+/// For n=4, r=3 and D=2: lengths of sheet, scratch and payload, not all of them right.
+pub const WRONG_LENGTHS: [[usize; 3]; 8] = [
+    [7, 8, 2],
+    [9, 8, 2],
+    [8, 7, 2],
+    [8, 9, 2],
+    [8, 8, 1],
+    [8, 8, 3],
+    [4, 4, 1],
+    [0, 0, 0],
+];
 
 /// One tally line: species 3, class 32, count 2.
 const LINE: [u8; 3] = [3, 32, 2];
@@ -102,6 +101,20 @@ fn plots(numbers: &[u16]) -> Vec<u8> {
 /// The eight bytes of a record of plot 7, then these bytes.
 fn after_plot_7(bytes: &[u8]) -> Vec<u8> {
     [&plots(&[7]), bytes].concat()
+}
+
+/// The longest payload, 4,048 bytes, full of plots 1 to 35.
+fn full() -> Vec<u8> {
+    (1..=35)
+        .flat_map(|plot| record(plot, &lines(if plot < 32 { 37 } else { 36 })))
+        .collect()
+}
+
+/// The longest payload with plots 1 to `last` of no lines, five bytes each.
+fn without_lines(last: u16) -> Vec<u8> {
+    let mut payload: Vec<u8> = (1..=last).flat_map(|plot| record(plot, &[])).collect();
+    payload.resize(4048, 0);
+    payload
 }
 
 /// Payloads with number and place of the checker's answer, 0 and 0 if accepted.
@@ -126,6 +139,8 @@ fn accepted_payloads() -> Vec<(Vec<u8>, u8, usize)> {
         record(9, &lines(40)),
         plots(&[1, 2, 255, 256, 65535]),
         record(7, &[1, 1, 1, 1, 2, 1, 2, 1, 1]),
+        full(),
+        without_lines(809),
     ];
     accepted.map(|payload| (payload, 0, 0)).into()
 }
@@ -199,6 +214,8 @@ pub fn asks() -> Vec<Ask> {
         (three.clone(), 44, Err((9, 0))),
         (three, 65535, Err((9, 0))),
         (record(65535, &[]), 65535, Ok((0, 5))),
+        (full(), 35, Ok((3935, 113))),
+        (without_lines(809), 809, Ok((4040, 5))),
         (vec![], 1, Err((9, 0))),
         (vec![], 0, Err((9, 0))),
         (vec![0; 20], 1, Err((9, 0))),
@@ -228,6 +245,7 @@ fn adds_with_room() -> Vec<Add> {
         (after_plot_7(&[0; 9]), 256, vec![], Ok(8)),
         (vec![0; 125], 9, lines(40), Ok(0)),
         (vec![0; 4048], 9, lines(40), Ok(0)),
+        (without_lines(808), 809, LINE.into(), Ok(4040)),
     ]
 }
 
@@ -264,6 +282,8 @@ fn adds_without_room() -> Vec<Add> {
         (after_plot_7(&[]), 8, vec![1], Err((7, 8))),
         (after_plot_7(&[]), 0, vec![], Err((7, 8))),
         (vec![0; 124], 9, lines(40), Err((10, 0))),
+        (full(), 36, vec![], Err((10, 4048))),
+        (without_lines(809), 810, vec![], Err((10, 4045))),
         (vec![0; 4049], 9, vec![1], Err((2, 0))),
         (vec![0, 0, 1], 9, vec![1], Err((5, 0))),
         (after_plot_7(&[0x50]), 0, vec![1], Err((6, 8))),

@@ -31,13 +31,7 @@ mod tests {
     #[test]
     fn every_shift_is_a_codeword() {
         for (n, r, b) in [(255, 64, 254), (30, 5, 7), (4, 3, 0), (255, 2, 0)] {
-            let profile = Profile {
-                n,
-                r,
-                b,
-                limit: 0,
-                depth: 1,
-            };
+            let profile = Profile::from([n, r, b, 0, 1]);
             for shift in 0..n - r {
                 let mut cells = vec![0; n];
                 cells[shift..=shift + r].copy_from_slice(&generator(b, r));

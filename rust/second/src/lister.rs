@@ -17,21 +17,14 @@ pub fn list(input: &[u8]) -> Vec<u8> {
 
 /// The text for an accepted input: header, tally lines, number of blocks changed.
 fn list_plots(input: &[u8]) -> Result<String, Refusal> {
-    if input.len() < 5 {
+    let Some((&numbers, cells)) = input.split_first_chunk() else {
         return refuse(PROFILE_RANGE, 0);
-    }
-    let number = |i: usize| usize::from(input[i]);
-    let profile = Profile {
-        n: number(0),
-        r: number(1),
-        b: number(2),
-        limit: number(3),
-        depth: number(4),
     };
+    let profile = Profile::from(numbers.map(usize::from));
     profile.check()?;
     let mut scratch = vec![0; profile.depth * profile.n];
     let mut payload = vec![0; profile.depth * profile.k()];
-    let changed = sheet::read(&profile, &input[5..], &mut scratch, &mut payload)?;
+    let changed = sheet::read(&profile, cells, &mut scratch, &mut payload)?;
     let mut text = String::from("plot,species,class,count\n");
     for record in plot::records(&payload)? {
         let number = plot::plot_number(&payload, record.start);

@@ -69,13 +69,7 @@ mod tests {
 
     #[test]
     fn document_01_written_sheet() {
-        let profile = Profile {
-            n: 4,
-            r: 3,
-            b: 0,
-            limit: 0,
-            depth: 2,
-        };
+        let profile = Profile::from([4, 3, 0, 0, 2]);
         let mut sheet = [170; 8];
         assert_eq!(write(&profile, &[1, 0], &mut sheet), Ok(()));
         assert_eq!(sheet, [8, 0, 14, 0, 7, 0, 1, 0]);
@@ -126,13 +120,7 @@ mod tests {
             ([ambiguous, unreachable, unreachable], AMBIGUOUS, 0),
         ];
         for (blocks, number, place) in table {
-            let profile = Profile {
-                n: 4,
-                r: 3,
-                b: 0,
-                limit: 2,
-                depth: 3,
-            };
+            let profile = Profile::from([4, 3, 0, 2, 3]);
             let sheet: Vec<u8> = (0..12).map(|p| blocks[p % 3][p / 3]).collect();
             let (mut scratch, mut payload) = ([170; 12], [170; 3]);
             let result = read(&profile, &sheet, &mut scratch, &mut payload);
@@ -152,22 +140,8 @@ mod tests {
             );
             assert_eq!((sheet, scratch, payload), ([170; 4], [170; 4], [170; 1]));
         }
-        let profile = Profile {
-            n: 4,
-            r: 3,
-            b: 0,
-            limit: 2,
-            depth: 2,
-        };
-        for (a, b, c) in [
-            (7, 8, 2),
-            (9, 8, 2),
-            (8, 7, 2),
-            (8, 9, 2),
-            (8, 8, 1),
-            (8, 8, 3),
-            (4, 4, 1),
-        ] {
+        let profile = Profile::from([4, 3, 0, 2, 2]);
+        for [a, b, c] in cases::WRONG_LENGTHS {
             let (mut sheet, mut scratch, mut payload) = (vec![170; a], vec![170; b], vec![170; c]);
             let result = read(&profile, &sheet, &mut scratch, &mut payload);
             assert_eq!(result, refuse(BUFFER_LENGTH, 0));

@@ -42,12 +42,12 @@ fn document_01_written_blocks() {
 #[test]
 fn profile_range_comes_first() {
     let huge = [
-        (usize::MAX, 3, 0, 0, 1),
-        (4, usize::MAX, 0, 0, 1),
-        (4, 3, usize::MAX, 0, 1),
-        (4, 3, 0, usize::MAX, 1),
+        [usize::MAX, 3, 0, 0, 1],
+        [4, usize::MAX, 0, 0, 1],
+        [4, 3, usize::MAX, 0, 1],
+        [4, 3, 0, usize::MAX, 1],
     ];
-    let huge = huge.map(|(n, r, b, limit, depth)| Profile { n, r, b, limit, depth });
+    let huge = huge.map(Profile::from);
     for profile in cases::profiles_out_of_range().into_iter().chain(huge) {
         let mut cells = [UNTOUCHED; 9];
         for length in [0, 4, 9] {
@@ -61,25 +61,19 @@ fn profile_range_comes_first() {
 
 #[test]
 fn extreme_profiles_are_accepted() {
-    for (n, r, b, limit, depth) in [
-        (3, 2, 0, 0, 1),
-        (255, 64, 254, 63, 16),
-        (65, 64, 0, 63, 1),
-        (255, 2, 254, 1, 16),
+    for numbers in [
+        [3, 2, 0, 0, 1],
+        [255, 64, 254, 63, 16],
+        [65, 64, 0, 63, 1],
+        [255, 2, 254, 1, 16],
     ] {
-        assert_eq!(Profile { n, r, b, limit, depth }.check(), Ok(()));
+        assert_eq!(Profile::from(numbers).check(), Ok(()));
     }
 }
 
 #[test]
 fn lengths_come_second() {
-    let profile = Profile {
-        n: 4,
-        r: 3,
-        b: 0,
-        limit: 2,
-        depth: 1,
-    };
+    let profile = Profile::from([4, 3, 0, 2, 1]);
     let mut cells = [UNTOUCHED; 9];
     for (first, second) in [(3, 4), (5, 4), (0, 4), (4, 3), (4, 5), (4, 0)] {
         assert_eq!(
@@ -132,13 +126,7 @@ fn agrees_with_listing_all_codewords() {
         let r = random.between(2, 6);
         let b = random.between(0, 254);
         let limit = random.between(0, r - 1);
-        let profile = Profile {
-            n: r + 1,
-            r,
-            b,
-            limit,
-            depth: 1,
-        };
+        let profile = Profile::from([r + 1, r, b, limit, 1]);
         let mut read = vec![0; r + 1];
         write(&profile, &[random.byte()], &mut read).unwrap();
         if round % 4 == 0 {
@@ -169,13 +157,7 @@ fn agrees_with_solving_each_run_afresh() {
     for _ in 0..60 {
         let n = random.between(6, 24);
         let r = random.between(2, 5);
-        let profile = Profile {
-            n,
-            r,
-            b: random.between(0, 254),
-            limit: r - 1,
-            depth: 1,
-        };
+        let profile = Profile::from([n, r, random.between(0, 254), r - 1, 1]);
         let mut read = vec![0; n];
         write(&profile, &random.bytes(n - r), &mut read).unwrap();
         let width = random.between(0, r);
@@ -210,13 +192,7 @@ fn runs_up_to_h_come_back() {
         (3, 2, 17),
         (40, 7, 200),
     ] {
-        let profile = Profile {
-            n,
-            r,
-            b,
-            limit: r - 1,
-            depth: 1,
-        };
+        let profile = Profile::from([n, r, b, r - 1, 1]);
         let mut codeword = vec![0; n];
         write(&profile, &random.bytes(n - r), &mut codeword).unwrap();
         let length = random.between(1, r / 2);
@@ -234,13 +210,7 @@ fn runs_up_to_h_come_back() {
 /// A cyclic block of 255 cells with its first and last cell wrong: no run, as a run never wraps.
 #[test]
 fn a_run_never_wraps() {
-    let profile = Profile {
-        n: 255,
-        r: 8,
-        b: 3,
-        limit: 2,
-        depth: 1,
-    };
+    let profile = Profile::from([255, 8, 3, 2, 1]);
     let mut read = vec![0; 255];
     (read[0], read[254]) = (5, 6);
     assert_eq!(correct(&profile, &read, &mut [0; 255]), refused(NO_CODEWORD));

@@ -21,12 +21,13 @@
 //! sheets      byte 0, profile, buffer payload, buffer sheet   number; place (0 if accepted); the sheet's bytes at exit
 //!             byte 1, profile, buffer sheet, buffer scratch,  number; blocks changed or place; the scratch's bytes
 //!             buffer payload                                  at exit; the payload's bytes at exit
-//! plots       byte 0, buffer payload                          number; place (0 if accepted)
+//! plots       byte 0, buffer payload                          number; the byte after the last record, or place
 //!             byte 1, buffer payload, word plot asked for     number; record's first byte or place; length of the
 //!                                                             part (0 if refused); the part's bytes
 //!             byte 2, buffer payload, word plot to add,       number; record's first byte or place; the payload's
 //!             buffer lines                                    bytes at exit
-//! library     as block; then as sheets, with bytes 3 and 4    as there
+//! library     as block; then as sheets, with bytes 3 and 4;   as there
+//!             then as plots, with bytes 5, 6 and 7
 //! lists       buffer standard input                           length of the text; its bytes
 //! generators  word b, word r                                  the r+1 coefficients, lowest first
 
@@ -36,7 +37,7 @@ mod sheets;
 mod vector;
 
 use std::io::{self, Read, Write};
-use vector::Vector;
+use vector::{counted_from, Vector};
 
 fn vectors(kind: &str) -> Option<Vec<Vector>> {
     match kind {
@@ -45,12 +46,20 @@ fn vectors(kind: &str) -> Option<Vec<Vector>> {
         "checks" => Some(blocks::checks()),
         "block" => Some(blocks::operations()),
         "sheets" => Some(sheets::sheets()),
-        "library" => Some(blocks::operations().into_iter().chain(sheets::after(3)).collect()),
+        "library" => Some(library()),
         "plots" => Some(plots::plots()),
         "lists" => Some(sheets::lists()),
         "generators" => Some(blocks::generators()),
         _ => None,
     }
+}
+
+/// Vectors for every operation of the library.
+fn library() -> Vec<Vector> {
+    let mut vectors = blocks::operations();
+    vectors.extend(counted_from(3, sheets::sheets()));
+    vectors.extend(counted_from(5, plots::plots()));
+    vectors
 }
 
 fn lister_text() -> io::Result<Vec<u8>> {
@@ -103,17 +112,31 @@ mod tests {
     /// Each kind has an accepted vector and one for each refusal that its entries can give.
     #[test]
     fn every_number_occurs() {
-        let expected: [(&str, &[usize]); 6] = [
+        let expected: [(&str, &[usize]); 7] = [
             ("blocks", &[0, 1, 2, 3, 4]),
             ("writes", &[0, 1, 2]),
             ("checks", &[0, 1, 2]),
             ("block", &[0, 1, 2, 3, 4]),
             ("sheets", &[0, 1, 2, 3, 4]),
             ("plots", &[0, 2, 5, 6, 7, 8, 9, 10]),
+            ("library", &[0, 1, 2, 3, 4, 5, 6, 7, 8, 9, 10]),
         ];
         for (kind, numbers) in expected {
             let found: BTreeSet<usize> = vectors(kind).unwrap().iter().map(|vector| vector.answer[0]).collect();
             assert_eq!(found, numbers.iter().copied().collect());
+        }
+    }
+
+    /// The files that the crates' programs are held to.
+    #[test]
+    fn the_stored_files_are_up_to_date() {
+        for (kind, form, file) in [
+            ("library", "--bytes", "vectors/stdin"),
+            ("library", "--answers", "vectors/stdout"),
+            ("generators", "--answers", "code_examples/stdout"),
+        ] {
+            let stored = std::fs::read(format!("{}/../../crates/{file}", env!("CARGO_MANIFEST_DIR"))).unwrap();
+            assert!(output(&[kind, form]).unwrap().unwrap() == stored, "{file}");
         }
     }
 

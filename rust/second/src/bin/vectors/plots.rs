@@ -3,13 +3,15 @@
 use crate::vector::{answer, Field, Vector};
 use second::random::Random;
 use second::{cases, plot, Refusal};
+use std::ops::Range;
 
 fn refused(refusal: Refusal) -> [usize; 2] {
     [refusal.number.into(), refusal.place]
 }
 
 fn check(payload: Vec<u8>) -> Vector {
-    let numbers = plot::check(&payload).map_or_else(refused, |()| [0, 0]);
+    let end = |found: Vec<Range<usize>>| [0, found.last().map_or(0, |record| record.end)];
+    let numbers = plot::records(&payload).map_or_else(refused, end);
     Vector {
         fields: vec![Field::Byte(0), Field::Bytes(payload)],
         answer: numbers.into(),

@@ -5,22 +5,18 @@ use second::random::Random;
 use second::{cases, lister, plot, sheet, Profile};
 
 /// n, r, b, L and D of the random sheets.
-const PROFILES: [(usize, usize, usize, usize, usize); 10] = [
-    (3, 2, 0, 1, 8),
-    (4, 3, 0, 2, 2),
-    (20, 8, 7, 7, 5),
-    (12, 5, 200, 2, 16),
-    (30, 10, 100, 5, 3),
-    (16, 4, 31, 2, 16),
-    (65, 64, 1, 32, 2),
-    (90, 21, 17, 20, 4),
-    (255, 64, 254, 63, 1),
-    (255, 16, 0, 8, 16),
+const PROFILES: [[usize; 5]; 10] = [
+    [3, 2, 0, 1, 8],
+    [4, 3, 0, 2, 2],
+    [20, 8, 7, 7, 5],
+    [12, 5, 200, 2, 16],
+    [30, 10, 100, 5, 3],
+    [16, 4, 31, 2, 16],
+    [65, 64, 1, 32, 2],
+    [90, 21, 17, 20, 4],
+    [255, 64, 254, 63, 1],
+    [255, 16, 0, 8, 16],
 ];
-
-fn profile((n, r, b, limit, depth): (usize, usize, usize, usize, usize)) -> Profile {
-    Profile { n, r, b, limit, depth }
-}
 
 fn write_vector(profile: &Profile, payload: &[u8], mut cells: Vec<u8>) -> Vector {
     let mut fields = vec![Field::Byte(0)];
@@ -100,7 +96,7 @@ fn lowest_refused() -> Vec<Vector> {
     ];
     let vector = |blocks: [[u8; 4]; 3]| {
         let cells: Vec<u8> = (0..12).map(|p| blocks[p % 3][p / 3]).collect();
-        read_vector(&profile((4, 3, 0, 2, 3)), &cells, vec![170; 12], vec![170; 3])
+        read_vector(&Profile::from([4, 3, 0, 2, 3]), &cells, vec![170; 12], vec![170; 3])
     };
     rows.map(vector).into()
 }
@@ -112,17 +108,8 @@ fn refused() -> Vec<Vector> {
         vectors.push(write_vector(&bad, &[1], vec![170; 4]));
         vectors.push(read_vector(&bad, &[9; 4], vec![170; 4], vec![170; 1]));
     }
-    let good = profile((4, 3, 0, 2, 2));
-    for (a, b, c) in [
-        (7, 8, 2),
-        (9, 8, 2),
-        (8, 7, 2),
-        (8, 9, 2),
-        (8, 8, 1),
-        (8, 8, 3),
-        (4, 4, 1),
-        (0, 0, 0),
-    ] {
+    let good = Profile::from([4, 3, 0, 2, 2]);
+    for [a, b, c] in cases::WRONG_LENGTHS {
         vectors.push(read_vector(&good, &vec![9; a], vec![170; b], vec![170; c]));
     }
     for (a, b) in [(1, 8), (3, 8), (2, 7), (2, 9), (0, 0)] {
@@ -133,23 +120,12 @@ fn refused() -> Vec<Vector> {
 
 pub fn sheets() -> Vec<Vector> {
     let mut random = Random::new(201);
-    let mut vectors = vec![write_vector(&profile((4, 3, 0, 0, 2)), &[1, 0], vec![170; 8])];
+    let mut vectors = vec![write_vector(&Profile::from([4, 3, 0, 0, 2]), &[1, 0], vec![170; 8])];
     for numbers in PROFILES {
-        vectors.extend(random_sheets(&profile(numbers), &mut random));
+        vectors.extend(random_sheets(&Profile::from(numbers), &mut random));
     }
     vectors.extend(lowest_refused());
     vectors.extend(refused());
-    vectors
-}
-
-/// The sheets with operations counted from `first` on.
-pub fn after(first: u8) -> Vec<Vector> {
-    let mut vectors = sheets();
-    for operation in vectors.iter_mut().filter_map(|vector| vector.fields.first_mut()) {
-        if let Field::Byte(number) = operation {
-            *number += first;
-        }
-    }
     vectors
 }
 
@@ -158,7 +134,7 @@ pub fn list_inputs() -> Vec<Vec<u8>> {
     let mut random = Random::new(202);
     let mut inputs: Vec<Vec<u8>> = cases::lists().into_iter().map(|(input, _)| input).collect();
     for numbers in PROFILES {
-        let profile = profile(numbers);
+        let profile = Profile::from(numbers);
         let mut payload = vec![0; profile.depth * profile.k()];
         for number in [1, 256, 65535] {
             // A plot that finds no space is left out.
@@ -169,8 +145,7 @@ pub fn list_inputs() -> Vec<Vec<u8>> {
         let mut cells = vec![0; profile.depth * profile.n];
         sheet::write(&profile, &payload, &mut cells).expect("a good profile");
         let damaged = damage(&cells, profile.depth * profile.h(), &mut random);
-        let (n, r, b, limit, depth) = numbers;
-        inputs.push([&[n, r, b, limit, depth].map(|x| x as u8)[..], &damaged].concat());
+        inputs.push([&numbers.map(|x| x as u8)[..], &damaged].concat());
     }
     inputs
 }

@@ -16,6 +16,16 @@ pub struct Vector {
     pub answer: Vec<usize>,
 }
 
+/// These vectors, each beginning with the byte of its operation, with the operations counted from `first` on.
+pub fn counted_from(first: u8, mut vectors: Vec<Vector>) -> Vec<Vector> {
+    for operation in vectors.iter_mut().filter_map(|vector| vector.fields.first_mut()) {
+        if let Field::Byte(number) = operation {
+            *number += first;
+        }
+    }
+    vectors
+}
+
 /// The five numbers of a profile in document 01's order.
 pub fn profile_fields(profile: &Profile) -> Vec<Field> {
     let Profile { n, r, b, limit, depth } = *profile;
