@@ -83,7 +83,7 @@ listing-length changed s h b = by-reading (reading s) refl
         let a : length (field changed newline) ≤ 3 = field-length 1 changed newline h in
         let i : length (plotsText ps) ≤ lineCount ps * 17 = plots-length 0 ps (reading-sound s ps end q .rising) (read-numbers s ps end q b) in
         let k : lineCount ps * 3 ≤ longest = read-count s ps end q in
-        let j : lineCount ps ≤ 1349 = omega arith in
+        let j : lineCount ps ≤ longest / 3 = omega arith in
         simp length-append (omega arith)
     by-reading (Stopped r) q =
         let n : numberOf r ≤ 10 = number-most r in

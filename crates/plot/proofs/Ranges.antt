@@ -36,13 +36,13 @@ line-ranges before line e =
     let p1 = pick-out (not (within 1 99 (line .species))) _ _ _ e not-true in
     let p2 = pick-out (not (within 1 200 (line .class))) _ _ _ (p1 .1) not-true in
     let p3 = pick-out (not (within 1 255 (line .count))) _ _ _ (p2 .1) not-true in
-    record { species = most 1 99 _ (p1 .0); class = most 1 200 _ (p2 .0); count = most 1 255 _ (p3 .0) }
+    record { species = at-most 1 99 _ (p1 .0); class = at-most 1 200 _ (p2 .0); count = at-most 1 255 _ (p3 .0) }
   where
     not-true : false ≡ true → ⊥
     not-true z = true-false z refl
 
-    most : (least most x : ℕ) → not (within least most x) ≡ false → x ≤ most
-    most l m x q = leb-true _ _ (pick-out (ltb x l) _ _ _ (not-false _ q) not-true .1)
+    at-most : (least most x : ℕ) → not (within least most x) ≡ false → x ≤ most
+    at-most least most x q = leb-true _ _ (pick-out (ltb x least) _ _ _ (not-false _ q) not-true .1)
 
 -- plots whose numbers have two bytes
 abbrev pub TwoBytes : List Plot → Type 0
