@@ -1,16 +1,16 @@
--- The theorems of specs/Theorems.antt. A sheet's refusal has a place below D; an accepted sheet gives a payload of bytes and at most D changed
--- blocks; and the text of a payload is as long as its lines.
-use mathlib.Core.Path.{_≡_, refl, sym}
+-- The theorems of specs/Theorems.antt. A sheet's refusal has a place of at most D; an accepted sheet gives a payload of bytes and at most D
+-- changed blocks; and the listing_text crate bounds the texts of these.
+use mathlib.Core.Path.{_≡_, refl, sym, ap₂, _∙_}
 use mathlib.Core.Logic.{⊎-elim}
 use mathlib.Core.List.{List}
-use Prim.Native.Nat.{ℕ, _*_, _≤_, zero-le}
+use Prim.Native.Nat.{ℕ, _*_, _≤_, _<_, zero-le}
 use native.Mathlib.Omega.{arith}
 use lib.Dec.{ltb, eqb}
-use lib.ListN.{length, drop, length-replicate}
+use lib.ListN.{length, getD, take, drop, length-replicate}
 use borrow.Author.Tests.{eqb-true, eqb-false}
 use Rattle.lists.proofs.Test.{true-or-false, true-false, pick-of}
 use Rattle.code.specs.Poly.{Bytes}
-use Rattle.code.proofs.Poly.{getD-byte, drop-bytes}
+use Rattle.code.proofs.Poly.{getD-byte, bytes-of, drop-bytes}
 use Rattle.block.specs.Profile.{InRange, inRange, messageLength}
 use Rattle.block.specs.declared.Profile.{Profile}
 use Rattle.block.proofs.Ranges.{in-range}
@@ -23,6 +23,7 @@ use Rattle.sheet.specs.declared.Refusal.{Refusal}
 use Rattle.sheet.specs.declared.Refusal.the-variants.{BadProfile, WrongLength, Block}
 use Rattle.sheet.proofs.Theorems.{read-results, early-refusals}
 use Rattle.sheet.proofs.Accepted.{payload-back, changed-most}
+use Rattle.listing_text.specs.Buffer.{textIn, textLength}
 use Rattle.listing_text.proofs.Fill.{fill-whole}
 use Rattle.listing_text.proofs.Lengths.{refusal-length, listing-length}
 use Rattle.listing.specs.Listing.{profileOf, scratchOf, payloadOf, sheetText, listed}
@@ -53,9 +54,11 @@ module _ (p : Profile) (sheet : List ℕ) where
         rw (sym (text-accepted p sheet (scratchOf p) (payloadOf p) refl refl changed back (sym q) refl))
         (listing-length changed back (omega (arith, v .depth-most)) (λ i. getD-byte back i bytes))
 
+  -- refusals 1 and 2
   early-fits : (number : ℕ) → ReadRefused p sheet (scratchOf p) (payloadOf p) number → length (sheetText p sheet) ≤ longestText
   early-fits number z = refused-fits (z .refusal) (z .answer) (omega (arith, z .placed))
 
+  -- any sheet of bytes under any profile
   sheet-fits : Bytes sheet → length (sheetText p sheet) ≤ longestText
   sheet-fits b =
       ⊎-elim (λ t. by-length (in-range p .0 t))
@@ -78,3 +81,10 @@ text-fits input b =
 
 pub whole-text : WholeText
 whole-text input out b h = fill-whole (listed input) out (omega (arith, text-fits input b))
+
+-- what `listing::list` answers and leaves in such a buffer
+pub list-whole : (input out left : List ℕ) (r : ℕ) → ((i : ℕ) → getD input i 0 < 256) → longestText ≤ length out
+    → (r ≡ textLength (listed input) out) × (left ≡ textIn (listed input) out) → (r ≤ length out) × (take r left ≡ listed input)
+list-whole input out left r b h e =
+    let w = whole-text input out (bytes-of input b) h in
+    (omega (arith, e .0), ap₂ take (e .0 ∙ w .0) (e .1) ∙ w .1)
