@@ -8,6 +8,7 @@ use Rattle.sheet.proofs.Promise.{sheet-promise}
 use Rattle.sheet.proofs.Examples.{starred-examples}
 use Rattle.plot.proofs.Canonical.{written-as-read, read-as-written, accepted-form, asked-is-record, added-is-found, refused-unchanged, full-exactly}
 use Rattle.plot.proofs.Sheets.{written-reads-as-plots, same-after-damage}
+use Rattle.listing.proofs.Theorems.{whole-text}
 use Rattle.demands.specs.Demands.{Demands}
 
 pub demands : Demands
@@ -39,4 +40,5 @@ demands = record {
     plots = same-after-damage;
     examples = starred-examples;
   };
+  lister = whole-text;
 }

@@ -8,6 +8,7 @@ use Rattle.sheet.specs.Promise.{SheetPromise}
 use Rattle.sheet.specs.Examples.{StarredExamples}
 use Rattle.plot.specs.Canonical.{WrittenAsRead, ReadAsWritten, AcceptedForm, AskedIsRecord, AddedIsFound, RefusedUnchanged, FullExactly}
 use Rattle.plot.specs.Sheets.{WrittenReadsAsPlots, SameAfterDamage}
+use Rattle.listing.specs.Theorems.{WholeText}
 
 -- 1. The arithmetic is that of the field, for every n and r together, and a payload has one form
 pub record Demand1 : Type 0 where
@@ -60,3 +61,5 @@ pub record Demands : Type 0 where
   pub first : Demand1
   pub second : Demand2
   pub third : Demand3
+  -- beside the three, of the program: the plot lister's answer is never cut
+  pub lister : WholeText

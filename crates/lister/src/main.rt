@@ -1,19 +1,33 @@
 // The plot lister of document 01. Standard input is read to its end, or to one byte past the longest valid input, and the text that the
 // library makes of it is written to standard output.
+ghost use mathlib.Core.Path.{_≡_};
+ghost use Prim.Native.Nat.{_≤_};
+ghost use lib.ListN.{length, take};
+ghost use Rattle.listing.specs.Listing.{listed};
+ghost use Rattle.listing.specs.Theorems.{longestText};
 use libc::STDIN_FILENO;
 use libc::STDOUT_FILENO;
 
-fn list_input(input: &mut [u8], out: &mut [u8]) {
+// The first bytes of `out`, as many as it answers, are the whole text.
+fn list_whole(input: &[u8], out: &mut [u8]) -> usize
+    requires { ⌜ longestText ≤ length (now out) ⌝ }
+    ensures { λ r. ⌜ (r ≤ length (now (out .entry))) × (take r (now (out .exit)) ≡ listed (now (input .entry))) ⌝ }
+{
+    listing::list(input, out)
+}
+
+fn list_input(input: &mut [u8], out: &mut [u8])
+    requires { ⌜ longestText ≤ length (now out) ⌝ }
+{
     let n = io::read_full(STDIN_FILENO, input);
-    let length = listing::list(&input[..n], out);
+    let length = list_whole(&input[..n], out);
     io::write_all(STDOUT_FILENO, &out[..length]);
 }
 
 fn main() {
     // Five bytes, 16 blocks of 255 cells, and one byte more, so that a longer input is seen to be longer.
     let mut input = [0u8; 4086];
-    // At most 4048 payload bytes, three a line, are at most 1349 lines, of at most 17 bytes as in `65535,99,200,255`; with a first line of 25
-    // bytes and a last one of at most 10, as in `mended,16`, at most 22968 bytes.
+    // `longestText` bytes: no text is longer (theorem `text-fits` of the listing crate).
     let mut out = [0u8; 22968];
     list_input(&mut input, &mut out);
 }

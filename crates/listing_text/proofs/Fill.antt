@@ -7,7 +7,7 @@ use mathlib.Core.Path.{_≡_, refl, sym, ap, _∙_}
 use mathlib.Core.Bool.{Bool, true, false}
 use mathlib.Core.List.{List, [], _∷_, _++_, append-assoc, append-nil}
 use lib.ListN.{length, take, drop, getD, set, length-append, length-set, drop-of-length-le}
-use lib.Seq.{drop-cons, take-nil, drop-nil, set-append-seam, append-snoc}
+use lib.Seq.{drop-cons, take-nil, take-all, take-at, drop-nil, set-append-seam, append-snoc}
 use lib.Dec.{ltb}
 use borrow.Author.Tests.{lt-ltb, le-ltb, ltb-false}
 use Rattle.lists.specs.Choice.{pick}
@@ -118,3 +118,9 @@ module _ (t out exit : List ℕ) (r : ℕ) (e : buffer exit r ≡ putAll t (buff
 
   pub fill-bytes : exit ≡ textIn t out
   fill-bytes = ap (λ (b : Buffer). b .bytes) filled
+
+-- a buffer that is long enough holds all of the text
+pub fill-whole : (t out : List ℕ) → length t ≤ length out → (textLength t out ≡ length t) × (take (length t) (textIn t out) ≡ t)
+fill-whole t out h =
+    let e : min (length t) (length out) ≡ length t = omega arith in
+    (e, rw (take-all (length out) t h, take-at t (drop (length t) out) (length t) refl))

@@ -7,7 +7,7 @@ use lib.ListN.{length, getD, drop}
 use lib.Dec.{ltb}
 use Rattle.lists.specs.Choice.{pick}
 use Rattle.plot.specs.Layout.{Plot, lineOf, linesOf}
-use Rattle.plot.specs.Grammar.{Reading, Plots, Stopped}
+use Rattle.plot.specs.Grammar.{Reading, Plots, Stopped, longest}
 use Rattle.plot.specs.Answers.{numberOf, placeOf}
 use Rattle.plot.specs.declared.Line.{Line}
 
@@ -65,3 +65,8 @@ refusalText number place = refused ++ (field number comma ++ field place newline
 unfoldable pub listingText : ℕ → Reading → List ℕ
 listingText changed (Plots ps end) = header ++ (plotsText ps ++ (mended ++ field changed newline))
 listingText changed (Stopped r) = refusalText (numberOf r) (placeOf r)
+
+-- no answer is longer: the header, a line for each three bytes of the longest payload, of at most 17 bytes as `65535,99,200,255` with its end, and a
+-- last line of at most 10, as `mended,16` with its end
+abbrev pub longestText : ℕ
+longestText = length header + longest / 3 * 17 + 10

@@ -51,6 +51,11 @@ true-or-false false = inr refl
 pub true-false : {t : Bool} → t ≡ true → t ≡ false → ⊥
 true-false {t} p q = let z : _≡_ {A = ℕ} 1 0 = ap (λ (u : Bool). pick u 1 0) (sym p ∙ q) in omega arith
 
+-- what holds of both cases of a choice holds of the choice
+pub pick-of {ℓ} : {A : Type ℓ} (P : A → Type 0) (t : Bool) (x y : A) → P x → P y → P (pick t x y)
+pick-of P true x y a b = a
+pick-of P false x y a b = b
+
 -- what two tests say together
 pub both-true : (a b : Bool) → both a b ≡ true → (a ≡ true) × (b ≡ true)
 both-true true b h = (refl, h)

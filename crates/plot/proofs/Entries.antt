@@ -4,7 +4,7 @@ use Prim.Native.Nat.{ℕ, zero, suc, _+_, _*_, _-_, _/_, _%_, _<_, _≤_}
 use native.Mathlib.Omega.{arith}
 use native.Mathlib.Nat.{le-refl}
 use mathlib.Core.Path.{_≡_, refl, sym, ap, _∙_}
-use mathlib.Core.Bool.{Bool, true, false, not}
+use mathlib.Core.Bool.{true, false, not}
 use mathlib.Core.List.{List, [], _∷_, _++_, append-nil}
 use lib.ListN.{length, take, drop, getD, length-append, length-drop, drop-of-length-le}
 use lib.Seq.{drop-drop, take-at, drop-at}
@@ -18,7 +18,7 @@ use Rattle.plot.specs.declared.Checked.the-variants as checked-as
 use Rattle.plot.specs.declared.Located.{Located}
 use Rattle.plot.specs.declared.Located.the-variants as located-as
 use Rattle.plot.specs.declared.Added.the-variants as added-as
-use Rattle.lists.specs.Choice.{pick}
+use Rattle.lists.proofs.Test.{pick-of}
 use Rattle.plot.specs.Layout.{Plot, recordLength, noLine, linesHold, linesOf, recordOf}
 use Rattle.plot.specs.Grammar.{stepAt, Reading, Plots, Stopped, readFrom, longest, reading}
 use Rattle.plot.specs.Answers.{lastNumber, checkedOf, checked, seek, locatedOf, located, partOf, linesFit, addedAt, addedOf, added, payloadAfter, payloadWith}
@@ -103,16 +103,12 @@ abbrev pub Within : ℕ → Located → Type 0
 Within size (located-as.At start len) = start + len ≤ size
 Within size (located-as.Refused r) = Unit
 
-within-pick : (size : ℕ) (t : Bool) (x y : Located) → Within size x → Within size y → Within size (pick t x y)
-within-pick size true x y a b = a
-within-pick size false x y a b = b
-
 pub within-seek : (n at size : ℕ) (ps : List Plot) → at + length (bytesOf ps) ≤ size → Within size (seek n at ps)
 unfolding seek
 within-seek n at size [] h = tt
 within-seek n at size (p ∷ ps) h =
     let l : length (recordOf p ++ bytesOf ps) ≡ length (recordOf p) + length (bytesOf ps) = length-append (recordOf p) (bytesOf ps) in
-    within-pick size (eqb (p .number) n) (located-as.At at (length (recordOf p))) (seek n (at + length (recordOf p)) ps) (omega arith)
+    pick-of (Within size) (eqb (p .number) n) (located-as.At at (length (recordOf p))) (seek n (at + length (recordOf p)) ps) (omega arith)
     (within-seek n (at + length (recordOf p)) size ps (omega arith))
 
 within-read : (n : ℕ) (s : List ℕ) (q : Reading) → reading s ≡ q → Within (length s) (locatedOf n q)

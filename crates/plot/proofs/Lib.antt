@@ -5,3 +5,4 @@ pub mod Entries
 pub mod Complete
 pub mod Canonical
 pub mod Sheets
+pub mod Ranges

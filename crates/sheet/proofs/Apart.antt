@@ -96,6 +96,10 @@ module _ (D k : ℕ) (message : ℕ → List ℕ) where
   unfolding joined
   joined-length = length-tab (D * k) _
 
+  pub joined-bytes : ((d : ℕ) → d < D → Bytes (message d)) → Bytes (joined D k message)
+  unfolding joined
+  joined-bytes h = tab-bytes (D * k) _ (λ q l. getD-byte (message (q / k)) (q % k) (h (q / k) (message-below D k q l)))
+
   pub joined-byte : (d j : ℕ) → d < D → j < k → getD (joined D k message) (d * k + j) 0 ≡ getD (message d) j 0
   unfolding joined
   joined-byte d j h l =

@@ -10,3 +10,4 @@ pub mod Examples
 pub mod Entry
 pub mod Blocks
 pub mod Steps
+pub mod Accepted

@@ -3,7 +3,7 @@ use mathlib.Core.Path.{_≡_, refl, sym, ap, ap₂, _∙_}
 use mathlib.Core.Logic.{_⊎_, inl, inr, ⊎-elim}
 use mathlib.Core.Bool.{Bool, true, false}
 use mathlib.Core.List.{List}
-use Prim.Native.Nat.{ℕ, zero, suc, _+_, _-_, _<_, zero-le, suc-le-suc}
+use Prim.Native.Nat.{ℕ, zero, suc, _+_, _-_, _≤_, _<_, zero-le, suc-le-suc}
 use native.Mathlib.Nat.{not-suc-le-zero, le-of-suc-le-suc, eq-or-lt-of-le, add-assoc}
 use native.Mathlib.Omega.{arith}
 use Rattle.lists.proofs.Test.{true-or-false}
@@ -31,6 +31,14 @@ pub zero-sum : (n : ℕ) (f : ℕ → ℕ) → ((i : ℕ) → i < n → f i ≡ 
 unfolding sum
 zero-sum zero f h = refl
 zero-sum (suc n) f h = ap₂ (λ (a b : ℕ). a + b) (h 0 (suc-le-suc zero-le)) (zero-sum n (λ (i : ℕ). f (suc i)) (λ i l. h (suc i) (suc-le-suc l)))
+
+pub small-sum : (n : ℕ) (f : ℕ → ℕ) → ((i : ℕ) → i < n → f i ≤ 1) → sum n f ≤ n
+unfolding sum
+small-sum zero f h = zero-le
+small-sum (suc n) f h =
+    let a : f 0 ≤ 1 = h 0 (suc-le-suc zero-le) in
+    let b : sum n (λ (i : ℕ). f (suc i)) ≤ n = small-sum n (λ (i : ℕ). f (suc i)) (λ i l. h (suc i) (suc-le-suc l)) in
+    omega arith
 
 module _ (p : Profile) (sheet : List ℕ) where
   abbrev fine : ℕ → Bool

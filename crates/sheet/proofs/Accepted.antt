@@ -1,0 +1,50 @@
+-- What an accepted sheet gives: a payload of D × k bytes, and no more changed blocks than D. Both follow from the reader's theorems.
+use mathlib.Core.Path.{_≡_, sym, _∙_}
+use mathlib.Core.List.{List}
+use Prim.Native.Nat.{ℕ, _≤_, zero-le}
+use native.Mathlib.Omega.{arith}
+use lib.ListN.{drop}
+use Rattle.lists.specs.Choice.{pick}
+use Rattle.lists.proofs.Test.{pick-of}
+use Rattle.code.proofs.Poly.{drop-bytes}
+use Rattle.block.specs.Profile.{InRange, messageLength}
+use Rattle.block.specs.declared.Profile.{Profile}
+use Rattle.sheet.specs.declared.Reading.the-variants.{Accepted}
+use Rattle.sheet.specs.Sheet.{readBlock, differ, readAnswer, readPayload}
+use Rattle.sheet.specs.Buffers.{Payload, Lent, differing}
+use Rattle.sheet.specs.Theorems.{AllWords, Accepts, Results}
+use Rattle.sheet.proofs.Apart.{joined-length, joined-bytes}
+use Rattle.sheet.proofs.Reader.{small-sum}
+use Rattle.sheet.proofs.Theorems.{read-results}
+
+module _ (p : Profile) (sheet scratch out : List ℕ) (v : InRange p) (h : Lent p sheet scratch out) (changed : ℕ)
+    (q : readAnswer p sheet scratch out ≡ Accepted changed) where
+  results : Results p sheet scratch out
+  results = read-results p sheet scratch out v h
+
+  abbrev words : ℕ → List ℕ
+  words = results .accepted changed q .0
+
+  all : AllWords p sheet words
+  all = results .accepted changed q .1
+
+  accepts : Accepts p sheet scratch out words
+  accepts = results .accepts words all
+
+  pub payload-back : Payload p (readPayload p sheet scratch out)
+  payload-back =
+      rw (accepts .payload)
+      (record {
+        count = joined-length (p .depth) (messageLength p) (λ (d : ℕ). drop (p .r) (words d));
+        bytes =
+            joined-bytes (p .depth) (messageLength p) (λ (d : ℕ). drop (p .r) (words d))
+            (λ d l. drop-bytes (p .r) (words d) (all d l .2 .reached .codeword .bytes));
+      })
+
+  pub changed-most : changed ≤ p .depth
+  changed-most =
+      let e : Accepted (differing (p .depth) words (readBlock p sheet)) ≡ Accepted changed = sym (accepts .answer) ∙ q in
+      let n : differing (p .depth) words (readBlock p sheet) ≡ changed = cc in
+      let m : differing (p .depth) words (readBlock p sheet) ≤ p .depth =
+      small-sum (p .depth) (λ (d : ℕ). pick (differ (words d) (readBlock p sheet d)) 1 0) (λ d l. pick-of (λ (n : ℕ). n ≤ 1) (differ (words d) (readBlock p sheet d)) 1 0 (omega arith) zero-le) in
+      omega arith
