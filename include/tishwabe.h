@@ -7,7 +7,7 @@
  * Profile: n cells in a block (3 to 255), r check cells (2 to 64, below n), b the starting power (0 to 254), limit the longest run that may
  * be corrected (L, 0 to r - 1), depth the blocks in a sheet (D, 1 to 16). k = n - r, h = r / 2 rounded down.
  *
- * Result: 0 where accepted, or document 01's number of the refusal (the enum below); for the two listing functions a number of bytes.
+ * Result: 0 where accepted, or document 01's number of the refusal (the enum below); for the three listing functions a number of bytes.
  * Every number behind a pointer is written on each call, refused or accepted; where it has no meaning it is 0.
  * A refusal leaves every buffer as it was, but for the scratch of tishwabe_read_sheet.
  *
@@ -42,6 +42,9 @@ enum tishwabe_refusal {
 
 /* Longest payload that the functions on plots accept, in bytes. */
 #define TISHWABE_LONGEST_PAYLOAD 4048
+
+/* No text of tishwabe_list_input has more bytes. */
+#define TISHWABE_LONGEST_TEXT 22968
 
 /* Whether the five numbers are a profile: 0 or 1. *k is n - r (0 where r is above n), *h is r / 2 rounded down. */
 size_t tishwabe_profile(size_t n, size_t r, size_t b, size_t limit, size_t depth, size_t *k, size_t *h);
@@ -102,6 +105,11 @@ size_t tishwabe_list(const uint8_t *payload, size_t payload_length, size_t chang
 
 /* The text for a refusal: `refused,number,place`. */
 size_t tishwabe_list_refusal(uint8_t number, size_t place, uint8_t *text, size_t text_length);
+
+/* The whole answer of the plot lister: the text for its standard input, the bytes n, r, b, L and D and then the sheet's D * n cells. The
+ * sheet is read, and the text is that of its payload with the number of blocks changed, or that of the refusal; fewer than five bytes are
+ * refusal 1, another number of cells refusal 2. The buffers of the reader are on the stack, 8,128 bytes. */
+size_t tishwabe_list_input(const uint8_t *input, size_t input_length, uint8_t *text, size_t text_length);
 
 #ifdef __cplusplus
 }

@@ -1,4 +1,4 @@
-/* Writes a sheet with two plots, damages it, reads it back, and asks for a plot. */
+/* Writes a sheet with two plots, damages it, reads it back, asks for a plot, and lists the sheet as the plot lister does. */
 #include <stdio.h>
 #include <string.h>
 
@@ -30,6 +30,13 @@ static void read_back(const uint8_t *sheet) {
     print_record(payload + place, length);
 }
 
+/* The plot lister's answer: its input is the profile's five bytes and then the sheet. */
+static void list_sheet(const uint8_t *sheet) {
+    uint8_t input[5 + D * N] = {PROFILE}, text[TISHWABE_LONGEST_TEXT];
+    memcpy(input + 5, sheet, D * N);
+    fwrite(text, 1, tishwabe_list_input(input, sizeof input, text, sizeof text), stdout);
+}
+
 int main(void) {
     static const uint8_t pines[] = {3, 32, 2};
     static const uint8_t mixed[] = {1, 10, 255, 3, 31, 4, 3, 32, 1};
@@ -49,7 +56,9 @@ int main(void) {
     read_back(sheet);
     memset(sheet + 10, 255, D * (R / 2)); /* a scratch of D * h cells */
     read_back(sheet);
+    list_sheet(sheet);
     memset(sheet + 40, 255, D * N - 40); /* a second scratch */
     read_back(sheet);
+    list_sheet(sheet);
     return 0;
 }

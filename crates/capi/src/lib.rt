@@ -1,6 +1,6 @@
 // The library for C and Rust: each exported function takes numbers and byte slices (pointer and length), answers document 01's number, 0 where
-// accepted, and hands every other number out through a reference. Each calls one entry of the crates below, and its contract is that entry's
-// answer, as the numbers of specs/Numbers.antt.
+// accepted, or the length of a text, and hands every other number out through a reference. Each calls one entry of the crates below, and its
+// contract is that entry's answer, as the numbers of specs/Numbers.antt.
 ghost use mathlib.Core.Path.{_≡_};
 ghost use Rattle.block.specs.Profile.{messageLength, half};
 ghost use Rattle.block.specs.Block.{verdictNumber, verdictStart, verdictLength, writtenNumber, checkedNumber, writeAnswer, writeLeaves, checkAnswer, correctAnswer, correctLeaves};
@@ -10,6 +10,7 @@ ghost use Rattle.plot.specs.Grammar.{reading};
 ghost use Rattle.plot.specs.Answers.{checked, located, added, payloadWith};
 ghost use Rattle.listing_text.specs.Text.{listingText, refusalText};
 ghost use Rattle.listing_text.specs.Buffer.{textIn, textLength};
+ghost use Rattle.listing.specs.Listing.{listed};
 ghost use Rattle.capi.specs.Numbers.{profileOf, profileNumber, cleanFlag, readingNumber, readingPlace, readingChanged, payloadNumber, payloadPlace, locatedNumber, locatedPlace, locatedLength, addedNumber, addedPlace};
 use block::Checked;
 use block::Profile;
@@ -333,4 +334,13 @@ pub extern "C" fn tishwabe_list_refusal(number: u8, place: usize, text: &mut [u8
     ensures { λ _. ⌜ now (text .exit) ≡ textIn (refusalText number place) (now (text .entry)) ⌝ }
 {
     listing_text::write_refusal(number, place, text)
+}
+
+/// The lister's text for the bytes of its standard input, as far as `text` goes: the number of bytes written.
+#[no_mangle]
+pub extern "C" fn tishwabe_list_input(input: &[u8], text: &mut [u8]) -> usize
+    ensures { λ z. ⌜ z ≡ textLength (listed (now (input .entry))) (now (text .entry)) ⌝ }
+    ensures { λ _. ⌜ now (text .exit) ≡ textIn (listed (now (input .entry))) (now (text .entry)) ⌝ }
+{
+    listing::list(input, text)
 }

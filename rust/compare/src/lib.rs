@@ -3,6 +3,7 @@
 
 pub mod block;
 pub mod draw;
+pub mod listing;
 pub mod plot;
 pub mod sheet;
 pub mod work;

@@ -1,6 +1,6 @@
 //! Entries on a sheet.
 
-use crate::{numbers, outcome, profile, Answer};
+use crate::{draw, numbers, outcome, profile, Answer};
 use second::random::Random;
 use second::{sheet, Profile};
 use tishwabe::ffi;
@@ -41,20 +41,27 @@ pub fn read(random: &mut Random, p: &Profile, cells: &[u8], lengths: (usize, usi
     (answer, due.1)
 }
 
-/// What the library's parts give as the lister's text, and the second decoder's text.
-pub fn list(input: &[u8]) -> String {
-    let due = String::from_utf8(second::lister::list(input)).expect("text");
-    assert_eq!(listed(input).unwrap_or_else(tishwabe::list_refusal), due, "{input:?}");
-    due
+/// The sheet of a payload, written with both, and scratched in one run of `least` to `most` cells.
+pub fn scratched(random: &mut Random, p: &Profile, payload: &[u8], least: usize, most: usize) -> Vec<u8> {
+    let (answer, mut cells) = write(random, p, payload, p.depth * p.n);
+    assert_eq!(answer.0, 0);
+    let length = random.between(least, most);
+    let start = random.between(0, cells.len() - length);
+    draw::scratch(random, &mut cells, start, length);
+    cells
 }
 
-fn listed(input: &[u8]) -> Result<String, tishwabe::Error> {
-    let Some((&[n, r, b, limit, depth], cells)) = input.split_first_chunk() else {
-        return Err(tishwabe::Error::BadProfile);
-    };
-    let p = tishwabe::Profile::new(n.into(), r.into(), b.into(), limit.into(), depth.into())?;
-    let mut scratch = vec![0; p.sheet_length()];
-    let mut payload = vec![0; p.payload_length()];
-    let changed = p.read_sheet(cells, &mut scratch, &mut payload)?;
-    Ok(tishwabe::list(&payload, changed))
+/// The sheet of a payload, written with both, and each block changed in its own way or left.
+pub fn damaged(random: &mut Random, p: &Profile, payload: &[u8]) -> Vec<u8> {
+    let (answer, mut cells) = write(random, p, payload, p.depth * p.n);
+    assert_eq!(answer.0, 0);
+    for d in 0..p.depth {
+        let block: Vec<u8> = cells.iter().skip(d).step_by(p.depth).copied().collect();
+        let damage = draw::DAMAGES[[0, 0, 0, 0, 1, 1, 3, 4][random.between(0, 7)]];
+        let changed = draw::damaged(random, p, &block, damage);
+        for (i, cell) in changed.into_iter().enumerate() {
+            cells[i * p.depth + d] = cell;
+        }
+    }
+    cells
 }

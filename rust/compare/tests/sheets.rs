@@ -1,22 +1,12 @@
-//! Sheets, written and read by the library and by the second decoder, and the lister's texts.
+//! Sheets, written and read by the library and by the second decoder.
 
 use compare::draw::{self, Size};
-use compare::sheet::{list, read, write};
+use compare::sheet::{damaged, read, scratched, write};
 use compare::work::{called, run, Tally};
 use second::random::Random;
-use second::{cases, plot, Profile};
+use second::{cases, Profile};
 
 const SIZE: Size = Size { n: 30, r: 10 };
-
-/// A written sheet of random bytes, scratched in one run of `least` to `most` cells.
-fn scratched(random: &mut Random, p: &Profile, payload: &[u8], least: usize, most: usize) -> Vec<u8> {
-    let (answer, mut cells) = write(random, p, payload, p.depth * p.n);
-    assert_eq!(answer.0, 0);
-    let length = random.between(least, most);
-    let start = random.between(0, cells.len() - length);
-    draw::scratch(random, &mut cells, start, length);
-    cells
-}
 
 /// Reads with buffers of the due lengths, and says whether the payload came back.
 fn read_back(random: &mut Random, p: &Profile, cells: &[u8], payload: &[u8], tally: &mut Tally) -> bool {
@@ -58,15 +48,7 @@ fn blocks_damaged_one_by_one() {
     let tally = run("blocks damaged", 1_500, |_, random, tally| {
         let p = draw::profile(random, draw::SMALL);
         let payload = random.bytes(p.depth * p.k());
-        let (_, mut cells) = write(random, &p, &payload, p.depth * p.n);
-        for d in 0..p.depth {
-            let block: Vec<u8> = cells.iter().skip(d).step_by(p.depth).copied().collect();
-            let damage = draw::DAMAGES[[0, 0, 0, 0, 1, 1, 3, 4][random.between(0, 7)]];
-            let changed = draw::damaged(random, &p, &block, damage);
-            for (i, cell) in changed.into_iter().enumerate() {
-                cells[i * p.depth + d] = cell;
-            }
-        }
+        let cells = damaged(random, &p, &payload);
         read_back(random, &p, &cells, &payload, tally);
     });
     for kind in ["accepted", "torn", "tied"] {
@@ -104,61 +86,5 @@ fn profiles_and_lengths_are_refused() {
     let mut random = Random::new(1);
     for p in cases::profiles_out_of_range() {
         bad(&mut random, &p);
-    }
-}
-
-/// A sheet's payload of some plots, as far as they find space.
-fn plots(random: &mut Random, length: usize) -> Vec<u8> {
-    let mut payload = vec![0; length];
-    let mut number = 0;
-    for _ in 0..random.between(0, 4) {
-        number += random.between(1, 9000);
-        let lines = draw::lines(random, 8);
-        let _ = plot::add(&mut payload, number as u16, &lines);
-    }
-    payload
-}
-
-/// The lister's input: the five numbers, then a scratched sheet, now and then with a byte changed, missing or added.
-fn lister_input(random: &mut Random) -> Vec<u8> {
-    let p = draw::profile(random, SIZE);
-    let payload = match random.between(0, 5) {
-        0 => random.bytes(p.depth * p.k()),
-        _ => plots(random, p.depth * p.k()),
-    };
-    let cells = scratched(random, &p, &payload, 0, p.depth * p.h());
-    let mut input = [&[p.n, p.r, p.b, p.limit, p.depth].map(|x| x as u8)[..], &cells].concat();
-    match random.between(0, 7) {
-        0 => input.truncate(random.between(0, input.len())),
-        1 => input.push(0),
-        2 => {
-            let place = random.between(0, 4);
-            input[place] = random.byte();
-        }
-        _ => {}
-    }
-    input
-}
-
-#[test]
-fn listings() {
-    for (input, text) in cases::lists() {
-        assert_eq!(list(&input), text);
-    }
-    let tally = run("listings", 1_500, |_, random, tally| {
-        let text = list(&lister_input(random));
-        let kind = match text.strip_prefix("refused,") {
-            Some(rest) => called(
-                rest.split(',')
-                    .next()
-                    .and_then(|number| number.parse().ok())
-                    .unwrap_or(0),
-            ),
-            None => "listed",
-        };
-        tally.count(kind);
-    });
-    for kind in ["listed", "misprint", "wrong frame", "torn", "bad mark"] {
-        assert!(tally.of(kind) > 10, "{kind}");
     }
 }

@@ -100,6 +100,7 @@ mod library {
             text_length: usize,
         ) -> usize;
         pub fn tishwabe_list_refusal(number: u8, place: usize, text: *mut u8, text_length: usize) -> usize;
+        pub fn tishwabe_list_input(input: *const u8, input_length: usize, text: *mut u8, text_length: usize) -> usize;
     }
 }
 
@@ -210,4 +211,10 @@ pub fn list(payload: &[u8], changed: usize, text: &mut [u8]) -> usize {
 /// The number of bytes written.
 pub fn list_refusal(number: u8, place: usize, text: &mut [u8]) -> usize {
     unsafe { library::tishwabe_list_refusal(number, place, text.as_mut_ptr(), text.len()) }
+}
+
+/// The number of bytes written.
+pub fn list_input(input: &[u8], text: &mut [u8]) -> usize {
+    let (from, to) = (input.as_ptr(), text.as_mut_ptr());
+    unsafe { library::tishwabe_list_input(from, input.len(), to, text.len()) }
 }

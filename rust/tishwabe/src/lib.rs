@@ -33,5 +33,5 @@ mod plot;
 mod profile;
 
 pub use error::Error;
-pub use plot::{add, ask, check_payload, list, list_refusal, locate};
+pub use plot::{add, ask, check_payload, list, list_input, list_refusal, locate};
 pub use profile::{Profile, Run};

@@ -83,6 +83,22 @@ pub fn list_refusal(error: Error) -> String {
     text(&bytes, length)
 }
 
+/// The lister's whole answer: the text for the bytes of its standard input, n, r, b, L and D and then the sheet.
+///
+/// ```
+/// let cells = [0xF0, 0xD4, 9, 0, 3, 5, 0x60, 6, 0x50, 0x4C, 7, 0, 1, 3, 32, 2];
+/// let scratched = [&[3, 2, 0, 1, 8][..], &[0; 8], &cells].concat();
+/// assert_eq!(tishwabe::list_input(&scratched), "plot,species,class,count\n7,3,32,2\nmended,7\n");
+/// assert_eq!(tishwabe::list_input(&scratched[..28]), "refused,2,0\n");
+/// assert_eq!(tishwabe::list_input(&[3, 2, 0, 1]), "refused,1,0\n");
+/// ```
+pub fn list_input(input: &[u8]) -> String {
+    // A payload of 4,048 bytes has at most 1,349 lines of 17 bytes; header and last line, `mended,16`, have at most 35.
+    let mut bytes = vec![0; 22_968];
+    let length = ffi::list_input(input, &mut bytes);
+    text(&bytes, length)
+}
+
 fn text(bytes: &[u8], length: usize) -> String {
     String::from_utf8_lossy(bytes.get(..length).unwrap_or_default()).into_owned()
 }
