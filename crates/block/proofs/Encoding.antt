@@ -7,12 +7,11 @@ use Prim.Native.Nat.{ℕ, zero, suc, _+_, _-_, _≤_, _<_}
 use native.Mathlib.Omega.{arith}
 use lib.ListN.{length, getD, take, drop, replicate, length-append}
 use lib.Seq.{drop-at, getD-drop}
-use Rattle.field.specs.Field.{add, mul, alpha}
-use Rattle.field.proofs.Sum.{add-self, add-zero-l}
-use Rattle.field.proofs.Product.{ring}
+use Rattle.field.specs.Field.{add, mul, power, alpha}
+use Rattle.field.proofs.Sum.{add-self}
 use Rattle.code.specs.Poly.{Bytes, eval}
 use Rattle.code.specs.Code.{generator, remainder, Codeword, syndrome, distance}
-use Rattle.code.proofs.Poly.{append-bytes, zeros-bytes}
+use Rattle.code.proofs.Poly.{append-bytes, zeros-bytes, eval-append, eval-zeros}
 use Rattle.code.proofs.Division.{remainder-length, remainder-bytes, remainder-syndrome, syndromes-codeword}
 use Rattle.code.proofs.Shifted.{distance-run}
 use Rattle.code.proofs.Theorems.{minimum-distance}
@@ -20,14 +19,6 @@ use Rattle.block.specs.Profile.{InRange, messageLength}
 use Rattle.block.specs.Block.{checkCells, encode}
 use Rattle.block.specs.Promises.{WrittenBlock, WritesCodeword, Word}
 use Rattle.block.specs.declared.Profile.{Profile}
-
-eval-append : (R m : List ℕ) (z : ℕ) → eval (R ++ m) z ≡ add (eval R z) (eval (replicate (length R) 0 ++ m) z)
-unfolding eval
-eval-append [] m z = sym (add-zero-l (eval m z))
-eval-append (x ∷ R) m z = ap (λ (v : ℕ). add x (mul z v)) (eval-append R m z) ∙ step x z (eval R z) (eval (replicate (length R) 0 ++ m) z)
-  where
-    step : (x z u v : ℕ) → add x (mul z (add u v)) ≡ add (add x (mul z u)) (add 0 (mul z v))
-    step x z u v = simp ring
 
 module _ (b r : ℕ) (m : List ℕ) where
   pub check-length : length (checkCells b r m) ≡ r
@@ -58,8 +49,8 @@ module _ (b r : ℕ) (m : List ℕ) where
     unfolding encode checkCells
     encode-syndrome i hi =
         let z : ℕ = alpha (b + i) in
-        eval-append (checkCells b r m) m z
-        ∙ ap₂ add (remainder-syndrome r b i (replicate r 0 ++ m) hi below-bytes) (ap (λ (k : ℕ). eval (replicate k 0 ++ m) z) check-length)
+        eval-append (checkCells b r m) m z h
+        ∙ ap₂ add (remainder-syndrome r b i (replicate r 0 ++ m) hi below-bytes) (ap (λ (k : ℕ). mul (power z k) (eval m z)) check-length ∙ sym (eval-zeros r m z h))
         ∙ add-self (eval (replicate r 0 ++ m) z)
 
     pub encode-codeword : (n : ℕ) → r < n → r ≤ 255 → length m ≡ n - r → Codeword n r b (encode b r m)

@@ -16,6 +16,8 @@ ghost use Rattle.block.specs.Block.{checkCells, isClean, verdict, filled
 ghost use Rattle.block.specs.Found.{generatorOnTop, improvedBy, Searched};
 use register::Register;
 
+mod fill;
+
 /// The five numbers of a profile: cells in a block (n), check cells (r), starting power (b), the longest run that may be
 /// corrected (L, `limit`), and blocks in a sheet (D, `depth`).
 pub struct Profile {
@@ -195,16 +197,6 @@ fn message_checks(p: Profile, g: Register, message: &[u8]) -> Register
     register::lowered(register::divide(g, message), p.r)
 }
 
-// The first r of the check cells, and the message above them.
-fn lay_out(r: usize, checks: [u8; 64], message: &[u8], cells: &mut [u8])
-    requires { ⌜ r ≤ 64 ⌝ }
-    requires { ⌜ length (now cells) ≡ r + length (now message) ⌝ }
-    ensures { λ _. ⌜ now (cells .exit) ≡ take r checks ++ now (message .entry) ⌝ }
-{
-    bytes::copy(&checks[..r], &mut cells[..r]);
-    bytes::copy(message, &mut cells[r..]);
-}
-
 /// Writes the block of a message: k bytes in, n cells out.
 pub fn write(p: Profile, message: &[u8], cells: &mut [u8]) -> Written
     ensures { λ a. ⌜ a ≡ writeAnswer p (now (message .entry)) (now (cells .entry)) ⌝ }
@@ -219,7 +211,7 @@ pub fn write(p: Profile, message: &[u8], cells: &mut [u8]) -> Written
     if cells.len() != p.n {
         return Written::WrongLength;
     }
-    lay_out(
+    fill::lay_out(
         p.r,
         register::low_cells(message_checks(p, generator_of(p), message)),
         message,
@@ -332,37 +324,8 @@ fn search(p: Profile, g: Register, first: Register) -> Found
     found
 }
 
-// Adds the lowest cells of an error to a part of a block.
-fn add_error(error: [u8; 64], part: &mut [u8])
-    requires { ⌜ length (now part) ≤ 64 ⌝ }
-    ensures { λ _. ⌜ now (part .exit) ≡ padd (now (part .entry)) (take (length (now (part .entry))) error) ⌝ }
-{
-    let mut i = 0;
-    while i < part.len() {
-        part[i] = part[i] ^ error[i];
-        i += 1;
-    }
-}
-
-// The read cells with the lowest cells of an error added from `start` on.
-fn place(read: &[u8], error: [u8; 64], start: usize, size: usize, out: &mut [u8])
-    requires { ⌜ length (now out) ≡ length (now read) ⌝ }
-    requires { ⌜ (start + size ≤ length (now read)) × (size ≤ 64) ⌝ }
-    ensures { λ _. ⌜ now (out .exit) ≡ addedAt start (take size error) (now (read .entry)) ⌝ }
-{
-    let end = start + size;
-    bytes::copy(read, out);
-    add_error(error, &mut out[start..end]);
-}
-
 // A block that is not clean, with its remainder.
-fn correct_errors(
-    p: Profile,
-    g: Register,
-    rest: Register,
-    read: &[u8],
-    out: &mut [u8],
-) -> Verdict
+fn correct_errors(p: Profile, g: Register, rest: Register, read: &[u8], out: &mut [u8]) -> Verdict
     requires { ⌜ InRange p ⌝ }
     requires { ⌜ cells g ≡ generatorOnTop p ⌝ }
     requires { ⌜ (length (now read) ≡ p .n) × (length (now out) ≡ p .n) ⌝ }
@@ -381,7 +344,7 @@ fn correct_errors(
     if found.again == 1 {
         return Verdict::Ambiguous;
     }
-    place(read, register::low_cells(error), start, size, out);
+    fill::place(read, register::low_cells(error), start, size, out);
     Verdict::Corrected {
         start,
         length: size,

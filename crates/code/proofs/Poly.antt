@@ -214,6 +214,15 @@ unfolding eval
 eval-nil [] z h = refl
 eval-nil (y ∷ q) z h = ap₂ (λ (u v : ℕ). add u (mul z v)) (h 0) (eval-nil q z (λ k. h (suc k))) ∙ simp ring
 
+-- cells above those of p
+pub eval-append : (p m : List ℕ) (z : ℕ) → Bytes m → eval (p ++ m) z ≡ add (eval p z) (mul (power z (length p)) (eval m z))
+unfolding eval power
+eval-append [] m z h = sym (add-zero-l (mul 1 (eval m z)) ∙ one-mul (eval m z) (eval-lt m z h))
+eval-append (x ∷ p) m z h = ap (λ (v : ℕ). add x (mul z v)) (eval-append p m z h) ∙ step x z (eval p z) (power z (length p)) (eval m z)
+  where
+    step : (x z u w v : ℕ) → add x (mul z (add u (mul w v))) ≡ add (add x (mul z u)) (mul (mul z w) v)
+    step x z u w v = simp ring
+
 pub eval-same : (p q : List ℕ) (z : ℕ) → ((k : ℕ) → getD p k 0 ≡ getD q k 0) → eval p z ≡ eval q z
 unfolding eval
 eval-same [] q z h = sym (eval-nil q z (λ k. sym (h k)))

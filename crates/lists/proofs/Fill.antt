@@ -1,11 +1,13 @@
 -- A buffer that a loop fills from the front with the cells of a list: what one turn stores, and what is there at the end.
 use mathlib.Core.Path.{_≡_, refl, sym, ap, _∙_}
 use mathlib.Core.List.{List, [], _∷_, _++_, append-nil}
-use Prim.Native.Nat.{ℕ, zero, suc, _+_, _≤_, _<_}
-use native.Mathlib.Nat.{not-suc-le-zero, le-of-suc-le-suc}
+use Prim.Native.Nat.{ℕ, zero, suc, _+_, _-_, _≤_, _<_}
+use native.Mathlib.Nat.{not-suc-le-zero, le-of-suc-le-suc, le-of-eq}
 use native.Mathlib.Numerals.{add-one}
-use lib.ListN.{length, getD, set, take, drop, drop-of-length-le}
-use lib.Seq.{take-all}
+use native.Mathlib.Omega.{arith}
+use lib.ListN.{length, getD, set, take, drop, length-append, length-take, drop-of-length-le}
+use lib.Seq.{take-all, take-at, drop-at}
+use borrow.Rule.Slice.PartMut.{midOf, putMid}
 
 module _ {A : Type 0} where
   fill-suc : (n : ℕ) (s d : List A) (z : A) → n < length d → n < length s → set (take n s ++ drop n d) n (getD s n z) ≡ take (suc n) s ++ drop (suc n) d
@@ -33,3 +35,13 @@ module _ {A : Type 0} where
   -- all of it
   pub fill-all : (n : ℕ) (s d : List A) → length s ≤ n → length d ≤ n → take n s ++ drop n d ≡ s
   fill-all n s d h k = rw (take-all n s h, drop-of-length-le d k, append-nil)
+
+  -- the part of a buffer above its first n cells, filled whole with s
+  pub fill-part : (n k : ℕ) (h d s last : List A) → length h ≡ n → length d ≡ length s → k ≡ length (h ++ d) - n
+      → last ≡ take (length s) s ++ drop (length s) (midOf n k (h ++ d)) → putMid n k (h ++ d) last ≡ h ++ s
+  fill-part n k h d s last e l q el =
+      let m : k ≡ length d = omega (arith, length-append h d) in
+      let short : length (midOf n k (h ++ d)) ≤ length s = omega (arith, length-take k (drop n (h ++ d)), ap length (drop-at h d n e)) in
+      let filled : last ≡ s = el ∙ fill-all (length s) s (midOf n k (h ++ d)) (le-of-eq refl) short in
+      let rest : length d ≤ k = omega arith in
+      rw (filled, take-at h d n e, drop-at h d n e, drop-of-length-le d rest, append-nil)

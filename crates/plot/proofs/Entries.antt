@@ -5,9 +5,9 @@ use native.Mathlib.Omega.{arith}
 use native.Mathlib.Nat.{le-refl}
 use mathlib.Core.Path.{_≡_, refl, sym, ap, _∙_}
 use mathlib.Core.Bool.{true, false, not}
-use mathlib.Core.List.{List, [], _∷_, _++_, append-nil}
-use lib.ListN.{length, take, drop, getD, length-append, length-drop, drop-of-length-le}
-use lib.Seq.{drop-drop, take-at, drop-at}
+use mathlib.Core.List.{List, [], _∷_, _++_}
+use lib.ListN.{length, take, drop, getD, length-append}
+use lib.Seq.{drop-drop}
 use lib.Dec.{leb, ltb, eqb}
 use borrow.Author.Tests.{le-ltb, lt-ltb, le-leb, lt-leb, eq-eqb, ne-eqb, ltb-false, leb-false, eqb-true, eqb-false, not-false}
 use Rattle.plot.specs.declared.Cursor.{Cursor}
@@ -259,12 +259,3 @@ end-within s ps end q =
     let j : length (bytesOf ps) ≤ length s = reading-sound s ps end q .fits in
     let k : 0 + length (bytesOf ps) ≡ end = reading-sound s ps end q .ends in
     omega arith
-
--- five bytes of a slice, then the lines after them
-pub header-then : (s h l : List ℕ) (k : ℕ) → length h ≡ 5 → length s ≡ 5 + length l → k ≡ length (h ++ drop 5 s) - 5
-    → take 5 (h ++ drop 5 s) ++ (l ++ drop k (drop 5 (h ++ drop 5 s))) ≡ h ++ l
-header-then s h l k e n z =
-    let a : length (h ++ drop 5 s) ≡ length h + length (drop 5 s) = length-append h (drop 5 s) in
-    let b : length (drop 5 s) ≡ length s - 5 = length-drop 5 s in
-    let c : length (drop 5 s) ≤ k = omega arith in
-    rw (take-at h (drop 5 s) 5 e, drop-at h (drop 5 s) 5 e, drop-of-length-le (drop 5 s) c, append-nil)

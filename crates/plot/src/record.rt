@@ -88,17 +88,6 @@ fn put_header(s: &mut [u8], plot: u16, count: u8)
     s[4] = count;
 }
 
-fn copy(from: &[u8], to: &mut [u8])
-    requires { ⌜ length (now to) ≡ length (now from) ⌝ }
-    ensures { λ _. ⌜ now (to .exit) ≡ now (from .entry) ⌝ }
-{
-    let mut i = 0;
-    while i < to.len() {
-        to[i] = from[i];
-        i += 1;
-    }
-}
-
 pub(crate) fn put_record(s: &mut [u8], plot: u16, lines: &[u8])
     requires { ⌜ length (now s) ≡ headerLength + length (now lines) ⌝ }
     requires { ⌜ length (now lines) ≤ 120 ⌝ }
@@ -106,5 +95,5 @@ pub(crate) fn put_record(s: &mut [u8], plot: u16, lines: &[u8])
 {
     let count = (lines.len() / 3) as u8;
     put_header(&mut s[..HEADER], plot, count);
-    copy(lines, &mut s[HEADER..]);
+    bytes::copy(lines, &mut s[HEADER..]);
 }

@@ -52,6 +52,18 @@ module _ (x z : Register) (c : ℕ) where
   unfolding cells shiftDown byte
   cells-down p q r s t u v w = cong8 p q r s t u v w
 
+-- a sum with a multiple of what stands a cell above
+module _ (x z : Register) (a t c : ℕ) (e : byte t 0 ≡ c) where
+  abbrev Rooted : ℕ → ℕ → ℕ → Type 0
+  Rooted v w above = bytesFrom 8 0 v ≡ padd (bytesFrom 8 0 w) (pscale a (shiftDown (bytesFrom 8 0 w) above))
+
+  pub cells-rooted : Rooted (z .w0) (x .w0) (byte (x .w1) 0) → Rooted (z .w1) (x .w1) (byte (x .w2) 0) → Rooted (z .w2) (x .w2) (byte (x .w3) 0) → Rooted (z .w3) (x .w3) (byte (x .w4) 0)
+      → Rooted (z .w4) (x .w4) (byte (x .w5) 0) → Rooted (z .w5) (x .w5) (byte (x .w6) 0) → Rooted (z .w6) (x .w6) (byte (x .w7) 0) → Rooted (z .w7) (x .w7) (byte t 0)
+      → cells z ≡ padd (cells x) (pscale a (shiftDown (cells x) c))
+  unfolding cells shiftDown padd pscale
+  cells-rooted h0 h1 h2 h3 h4 h5 h6 h7 =
+      cong8 h0 h1 h2 h3 h4 h5 h6 (h7 ∙ ap (λ (k : ℕ). padd (bytesFrom 8 0 (x .w7)) (pscale a (shiftDown (bytesFrom 8 0 (x .w7)) k))) e)
+
 pub cells-scaled : (k : ℕ) (x z : Register) → bytesFrom 8 0 (z .w0) ≡ pscale k (bytesFrom 8 0 (x .w0)) → bytesFrom 8 0 (z .w1) ≡ pscale k (bytesFrom 8 0 (x .w1))
     → bytesFrom 8 0 (z .w2) ≡ pscale k (bytesFrom 8 0 (x .w2)) → bytesFrom 8 0 (z .w3) ≡ pscale k (bytesFrom 8 0 (x .w3))
     → bytesFrom 8 0 (z .w4) ≡ pscale k (bytesFrom 8 0 (x .w4)) → bytesFrom 8 0 (z .w5) ≡ pscale k (bytesFrom 8 0 (x .w5))

@@ -57,10 +57,10 @@ low-suc b i =
     ∙ padd-comm p (0 ∷ take i g)
 
 -- the same over any list t in front of 1, with m zeros and one more below it
-top-sum : (m a : ℕ) (t G D S : List ℕ) → G ≡ 0 ∷ (replicate m 0 ++ t) → D ≡ shiftDown G 1 → S ≡ pscale a D → padd G S ≡ replicate m 0 ++ padd (0 ∷ t) (pscale a (t ++ (1 ∷ [])))
-top-sum m a t G D S eG eD eS =
+top-sum : (m a : ℕ) (t G : List ℕ) → G ≡ 0 ∷ (replicate m 0 ++ t) → padd G (pscale a (shiftDown G 1)) ≡ replicate m 0 ++ padd (0 ∷ t) (pscale a (t ++ (1 ∷ [])))
+top-sum m a t G eG =
     ap₂ padd (eG ∙ zeros-on m t)
-    (eS ∙ ap (pscale a) (eD ∙ ap (λ (u : List ℕ). shiftDown u 1) eG ∙ down-in 1 0 (replicate m 0 ++ t) ∙ append-assoc (replicate m 0) t (1 ∷ [])) ∙ low-scale m a (t ++ (1 ∷ [])))
+    (ap (pscale a) (ap (λ (u : List ℕ). shiftDown u 1) eG ∙ down-in 1 0 (replicate m 0 ++ t) ∙ append-assoc (replicate m 0) t (1 ∷ [])) ∙ low-scale m a (t ++ (1 ∷ [])))
     ∙ low-sum m (0 ∷ t) (pscale a (t ++ (1 ∷ [])))
 
 low-top : (b i : ℕ) → padd (0 ∷ take i (generator b i)) (pscale (alpha (b + i)) (take i (generator b i) ++ (1 ∷ []))) ≡ take (i + 1) (generator b (i + 1))
@@ -69,13 +69,13 @@ low-top b i =
     ∙ sym (low-suc b i)
     ∙ ap (λ (k : ℕ). take k (generator b k)) (sym (add-one i))
 
-pub top-more : (b i a : ℕ) (G D S N : List ℕ) → i < 64 → a ≡ alpha (b + i) → G ≡ onTop i (take i (generator b i)) → D ≡ shiftDown G 1 → S ≡ pscale a D → N ≡ padd G S
+pub top-more : (b i : ℕ) (G N : List ℕ) → i < 64 → G ≡ onTop i (take i (generator b i)) → N ≡ padd G (pscale (alpha (b + i)) (shiftDown G 1))
     → N ≡ onTop (i + 1) (take (i + 1) (generator b (i + 1)))
-top-more b i a G D S N h ea eG eD eS eN =
+top-more b i G N h eG eN =
     let high : 64 - i ≡ suc (63 - i) = omega arith in
     let low : 63 - i ≡ 64 - (i + 1) = omega arith in
     eN
-    ∙ top-sum (63 - i) (alpha (b + i)) (take i (generator b i)) G D S (eG ∙ ap (λ (k : ℕ). replicate k 0 ++ take i (generator b i)) high) eD (eS ∙ ap (λ (k : ℕ). pscale k D) ea)
+    ∙ top-sum (63 - i) (alpha (b + i)) (take i (generator b i)) G (eG ∙ ap (λ (k : ℕ). replicate k 0 ++ take i (generator b i)) high)
     ∙ ap₂ (λ (k : ℕ) (u : List ℕ). replicate k 0 ++ u) low (low-top b i)
 
 pub top-none : (b : ℕ) (G : List ℕ) → G ≡ replicate 64 0 → G ≡ onTop 0 (take 0 (generator b 0))

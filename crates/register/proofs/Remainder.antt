@@ -12,7 +12,7 @@ use Rattle.field.proofs.Sum.{add-eq, add-zero-l, add-zero-r}
 use Rattle.field.proofs.Product.{mul-left-comm, mul-zero, one-mul, mul-one, ring}
 use Rattle.code.specs.Poly.{Bytes, eval, padd, pscale}
 use Rattle.code.specs.Code.{generator, remStep, remainder}
-use Rattle.code.proofs.Poly.{padd-assoc, padd-comm, padd-length, padd-bytes, padd-zeros, pscale-add, pscale-length, pscale-bytes, zeros-bytes, append-bytes, eval-lt, eval-padd, eval-pscale, eval-cons-zero}
+use Rattle.code.proofs.Poly.{padd-assoc, padd-comm, padd-length, padd-bytes, padd-zeros, pscale-add, pscale-length, pscale-bytes, zeros-bytes, append-bytes, eval-padd, eval-pscale, eval-cons-zero, eval-append}
 use Rattle.code.proofs.Generator.{generator-bytes, generator-length, generator-monic, generator-root}
 use Rattle.code.proofs.Distance.{determined, distance-le}
 use Rattle.code.proofs.Division.{step-length, step-bytes, eval-remStep, remainder-length, remainder-bytes, remainder-syndrome}
@@ -122,14 +122,6 @@ module _ (r : ℕ) (g : List ℕ) (pos : 0 < r) (len : length g ≡ suc r) (moni
       where
         step : (x z w v : ℕ) → add (mul z (mul w v)) (mul w x) ≡ mul w (add x (mul z v))
         step x z w v = simp ring
-
-eval-append : (p m : List ℕ) (z : ℕ) → Bytes m → eval (p ++ m) z ≡ add (eval p z) (mul (power z (length p)) (eval m z))
-unfolding eval power
-eval-append [] m z h = sym (add-zero-l (mul 1 (eval m z)) ∙ one-mul (eval m z) (eval-lt m z h))
-eval-append (x ∷ p) m z h = ap (λ (v : ℕ). add x (mul z v)) (eval-append p m z h) ∙ step x z (eval p z) (power z (length p)) (eval m z)
-  where
-    step : (x z u w v : ℕ) → add x (mul z (add u (mul w v))) ≡ add (add x (mul z u)) (mul (mul z w) v)
-    step x z u w v = simp ring
 
 module _ (b r : ℕ) (pos : 0 < r) (m : List ℕ) where
   pub left-length : length (feeds r (generator b r) m) ≡ r

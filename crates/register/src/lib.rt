@@ -8,10 +8,9 @@ ghost use Rattle.field.specs.Field.{add};
 ghost use Rattle.code.specs.Poly.{padd, pscale};
 ghost use Rattle.code.specs.Code.{generator};
 ghost use Rattle.code.specs.Search.{extent};
-ghost use Rattle.register.specs.Words.{cells, byte, bytesFrom};
+ghost use Rattle.register.specs.Words.{cells};
 ghost use Rattle.register.specs.Doubles.{DoublesOf};
 ghost use Rattle.register.specs.Register.{shiftUp, shiftDown, feeds, padTo, onTop, monicOf, backGenerator};
-
 use word::Doubles;
 
 mod word;
@@ -199,34 +198,11 @@ pub fn divide(g: Register, input: &[u8]) -> Register
     x
 }
 
-fn least(m: usize, n: usize) -> usize
-    ensures { λ r. ⌜ r ≡ min m n ⌝ }
-{
-    if m < n {
-        return m;
-    }
-    n
-}
-
 // A count of cells, at most the 64 that a register has.
 fn clamp(r: usize) -> usize
     ensures { λ n. ⌜ n ≡ min r 64 ⌝ }
 {
-    least(r, 64)
-}
-
-// Eight cells of a slice as a word, from cell k on, with zeros where it has fewer.
-fn load_word(s: &[u8], k: usize) -> u64
-    requires { ⌜ k ≤ 56 ⌝ }
-    ensures { λ w. ⌜ bytesFrom 8 0 w ≡ padTo 8 (drop k (now (s .entry))) ⌝ }
-{
-    let mut w: u64 = 0;
-    let mut i = least(s.len(), k + 8);
-    while k < i {
-        i -= 1;
-        w = word::word_up(w, word::at_top(s[i]));
-    }
-    w
+    word::least(r, 64)
 }
 
 /// The first 64 cells of a slice from the lowest cell on, with zeros where it has fewer.
@@ -234,14 +210,14 @@ pub fn load(s: &[u8]) -> Register
     ensures { λ r. ⌜ cells r ≡ padTo 64 (now (s .entry)) ⌝ }
 {
     Register {
-        w0: load_word(s, 0),
-        w1: load_word(s, 8),
-        w2: load_word(s, 16),
-        w3: load_word(s, 24),
-        w4: load_word(s, 32),
-        w5: load_word(s, 40),
-        w6: load_word(s, 48),
-        w7: load_word(s, 56),
+        w0: word::load_word(s, 0),
+        w1: word::load_word(s, 8),
+        w2: word::load_word(s, 16),
+        w3: word::load_word(s, 24),
+        w4: word::load_word(s, 32),
+        w5: word::load_word(s, 40),
+        w6: word::load_word(s, 48),
+        w7: word::load_word(s, 56),
     }
 }
 
@@ -252,14 +228,6 @@ pub fn from_cells(s: [u8; 64]) -> Register
     load(&s)
 }
 
-// Cell k of a word.
-fn cell_at(w: u64, k: usize) -> u8
-    requires { ⌜ k < 8 ⌝ }
-    ensures { λ r. ⌜ r ≡ byte w k ⌝ }
-{
-    ((w >> (8 * k)) % 256) as u8
-}
-
 /// The cells of a register.
 pub fn low_cells(x: Register) -> [u8; 64]
     ensures { λ r. ⌜ r ≡ cells x ⌝ }
@@ -268,7 +236,7 @@ pub fn low_cells(x: Register) -> [u8; 64]
     let mut out = [0u8; 64];
     let mut i: usize = 0;
     while i < 64 {
-        out[i] = cell_at(w[i / 8], i % 8);
+        out[i] = word::cell_at(w[i / 8], i % 8);
         i += 1;
     }
     out
@@ -361,10 +329,11 @@ pub fn is_zero(x: Register) -> bool
     extent(x) == 0
 }
 
-// Each cell times a, of which the doubles are given.
-fn scale_by(d: Doubles, x: Register) -> Register
-    ensures { λ r. ⌜ ((a : ℕ) → DoublesOf a d → cells r ≡ pscale a (cells x)) ⌝ }
+/// Each cell times a.
+pub fn scale(a: u8, x: Register) -> Register
+    ensures { λ r. ⌜ cells r ≡ pscale a (cells x) ⌝ }
 {
+    let d = word::doubles_of(a);
     Register {
         w0: word::word_scale(d, x.w0),
         w1: word::word_scale(d, x.w1),
@@ -377,15 +346,23 @@ fn scale_by(d: Doubles, x: Register) -> Register
     }
 }
 
-/// Each cell times a.
-pub fn scale(a: u8, x: Register) -> Register
-    ensures { λ r. ⌜ cells r ≡ pscale a (cells x) ⌝ }
+// A generator's low cells with a further root a, of which the doubles are given: the cells, and a times the cells moved down by one with 1 on top.
+fn with_root(d: Doubles, g: Register) -> Register
+    ensures { λ r. ⌜ ((a : ℕ) → DoublesOf a d → cells r ≡ padd (cells g) (pscale a (shiftDown (cells g) 1))) ⌝ }
 {
-    scale_by(word::doubles_of(a), x)
+    Register {
+        w0: word::word_root(d, g.w0, g.w1),
+        w1: word::word_root(d, g.w1, g.w2),
+        w2: word::word_root(d, g.w2, g.w3),
+        w3: word::word_root(d, g.w3, g.w4),
+        w4: word::word_root(d, g.w4, g.w5),
+        w5: word::word_root(d, g.w5, g.w6),
+        w6: word::word_root(d, g.w6, g.w7),
+        w7: word::word_root(d, g.w7, word::at_bottom(1)),
+    }
 }
 
-/// The low r cells of the generator with the roots α^b, α^(b+1), .. as the highest of the register; r counts as at most 64. Each root a makes
-/// of the cells G the sum of G and a times G moved down by one, with 1 on top.
+/// The low r cells of the generator with the roots α^b, α^(b+1), .. as the highest of the register; r counts as at most 64.
 pub fn generator_top(b: usize, r: usize) -> Register
     ensures { λ z. ⌜ cells z ≡ onTop (min r 64) (take (min r 64) (generator b (min r 64))) ⌝ }
 {
@@ -394,7 +371,7 @@ pub fn generator_top(b: usize, r: usize) -> Register
     let mut d = word::doubles_of(field::alpha_power(b));
     let mut i: usize = 0;
     while i < n {
-        let next = add(g, scale_by(d, push_top(g, 1)));
+        let next = with_root(d, g);
         g = next;
         let twofold = word::next_doubles(d);
         d = twofold;

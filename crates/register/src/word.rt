@@ -1,13 +1,14 @@
-// Operations on one word of eight cells: moved by a cell, doubled, multiplied, and how many cells are in use. Exclusive or, shifts by a constant
+// Operations on one word of eight cells: taken from a slice, moved by a cell, doubled, multiplied, and how many cells are in use. Exclusive or, shifts by a constant
 // and masks keep sums, so what they do to the cells is settled at the 64 powers of two.
 ghost use mathlib.Core.Path.{_≡_};
-ghost use Prim.Native.Nat.{ℕ, _<_, _≤_};
+ghost use Prim.Native.Nat.{ℕ, _<_, _≤_, min};
+ghost use lib.ListN.{drop};
 ghost use Rattle.field.specs.Field.{mul};
-ghost use Rattle.code.specs.Poly.{pscale};
+ghost use Rattle.code.specs.Poly.{padd, pscale};
 ghost use Rattle.code.specs.Search.{extent};
 ghost use Rattle.register.specs.Words.{byte, bytesFrom};
 ghost use Rattle.register.specs.Doubles.{DoublesOf, bitsAt};
-ghost use Rattle.register.specs.Register.{shiftUp, shiftDown};
+ghost use Rattle.register.specs.Register.{shiftUp, shiftDown, padTo};
 
 // The cell as the highest of a word.
 pub fn at_top(c: u8) -> u64
@@ -23,6 +24,14 @@ pub fn at_bottom(c: u8) -> u64
     c as u64
 }
 
+// Cell k of a word.
+pub fn cell_at(w: u64, k: usize) -> u8
+    requires { ⌜ k < 8 ⌝ }
+    ensures { λ r. ⌜ r ≡ byte w k ⌝ }
+{
+    ((w >> (8 * k)) % 256) as u8
+}
+
 // A word moved up by a cell; the highest cell of the word below comes in.
 pub fn word_up(w: u64, below: u64) -> u64
     ensures { λ r. ⌜ bytesFrom 8 0 r ≡ shiftUp (byte below 7) (bytesFrom 8 0 w) ⌝ }
@@ -35,6 +44,30 @@ pub fn word_down(w: u64, above: u64) -> u64
     ensures { λ r. ⌜ bytesFrom 8 0 r ≡ shiftDown (bytesFrom 8 0 w) (byte above 0) ⌝ }
 {
     (w >> 8) ^ (above << 56)
+}
+
+// The lesser of two counts.
+pub fn least(m: usize, n: usize) -> usize
+    ensures { λ r. ⌜ r ≡ min m n ⌝ }
+{
+    if m < n {
+        return m;
+    }
+    n
+}
+
+// Eight cells of a slice as a word, from cell k on, with zeros where it has fewer.
+pub fn load_word(s: &[u8], k: usize) -> u64
+    requires { ⌜ k ≤ 56 ⌝ }
+    ensures { λ w. ⌜ bytesFrom 8 0 w ≡ padTo 8 (drop k (now (s .entry))) ⌝ }
+{
+    let mut w: u64 = 0;
+    let mut i = least(s.len(), k + 8);
+    while k < i {
+        i -= 1;
+        w = word_up(w, at_top(s[i]));
+    }
+    w
 }
 
 // Each cell of a word doubled: shifted, and 29 added for the bit that leaves.
@@ -122,4 +155,11 @@ pub fn word_scale(d: Doubles, w: u64) -> u64
     let low = plane(w, 0, d.c0) ^ plane(w, 1, d.c1) ^ plane(w, 2, d.c2) ^ plane(w, 3, d.c3);
     let high = plane(w, 4, d.c4) ^ plane(w, 5, d.c5) ^ plane(w, 6, d.c6) ^ plane(w, 7, d.c7);
     low ^ high
+}
+
+// A word of a generator's cells with a further root a: the word, and a times the word moved down by a cell.
+pub fn word_root(d: Doubles, w: u64, above: u64) -> u64
+    ensures { λ r. ⌜ ((a : ℕ) → DoublesOf a d → bytesFrom 8 0 r ≡ padd (bytesFrom 8 0 w) (pscale a (shiftDown (bytesFrom 8 0 w) (byte above 0)))) ⌝ }
+{
+    w ^ word_scale(d, word_down(w, above))
 }

@@ -4,6 +4,7 @@
 mod date;
 mod plot;
 mod report;
+mod sheets;
 mod timing;
 
 use bench::Shape;
@@ -11,12 +12,25 @@ use std::path::Path;
 
 const SHAPES: [(usize, usize); 4] = [(255, 16), (255, 32), (255, 64), (60, 20)];
 
-fn main() {
-    let compared: Vec<_> = SHAPES
+/// Different blocks in a measurement, and its rounds.
+const BLOCKS: usize = 64;
+const ROUNDS: usize = 201;
+
+fn compared(shapes: &[(usize, usize)], blocks: usize) -> String {
+    let times: Vec<_> = shapes
         .iter()
-        .map(|&(n, r)| (Shape { n, r, b: 1 }, timing::measure(Shape { n, r, b: 1 }, 1001)))
+        .map(|&(n, r)| Shape { n, r, b: 1 })
+        .map(|shape| (shape, timing::measure(shape, blocks, ROUNDS)))
         .collect();
-    let table = report::table(&compared);
+    report::table(&times)
+}
+
+fn main() {
+    let table = format!(
+        "{}\nOne block again and again, instead of {BLOCKS} in turn:\n\n{}",
+        compared(&SHAPES, BLOCKS),
+        compared(&[(255, 32)], 1)
+    );
     println!("{table}");
     if std::env::args().nth(1).as_deref() == Some("show") {
         return;

@@ -1,8 +1,9 @@
-//! How the times of the proved library grow: three panels, over n at r = 32, over r at n = 255, and over D as D times a block of (255, 32).
+//! How the times of the proved library grow: three panels, of a block over n at r = 32 and over r at n = 255, and of a sheet over D.
 
 use bench::Shape;
 
-use crate::timing::{measure, Times};
+use crate::sheets;
+use crate::timing::measure;
 
 const WIDTH: f64 = 300.0;
 const HEIGHT: f64 = 240.0;
@@ -14,32 +15,30 @@ struct Panel {
     points: Vec<(f64, [f64; 3])>,
 }
 
-fn microseconds(times: &Times, blocks: f64) -> [f64; 3] {
-    [times.write, times.check, times.correct.unwrap_or(0.0)].map(|t| blocks * t / 1000.0)
+fn block(n: usize, r: usize) -> [f64; 3] {
+    let times = &measure(Shape { n, r, b: 1 }, 64, 51)[0];
+    [times.write, times.check, times.correct.unwrap_or(0.0)].map(|t| t / 1000.0)
 }
 
-fn point(n: usize, r: usize) -> [f64; 3] {
-    microseconds(&measure(Shape { n, r, b: 1 }, 301)[0], 1.0)
+fn sheet(depth: usize) -> [f64; 3] {
+    sheets::measure(depth, 51).map(|t| t / 1000.0)
 }
 
 /// The whole drawing.
 pub fn growth() -> String {
     let sizes = (1..=8).map(|k| k * 32 - usize::from(k == 8)).filter(|&n| n > 32);
-    let sheet = point(255, 32);
     let panels = [
         Panel {
-            label: "n (r = 32)",
-            points: sizes.map(|n| (n as f64, point(n, 32))).collect(),
+            label: "n (a block, r = 32)",
+            points: sizes.map(|n| (n as f64, block(n, 32))).collect(),
         },
         Panel {
-            label: "r (n = 255)",
-            points: (1..=8).map(|k| (8.0 * k as f64, point(255, 8 * k))).collect(),
+            label: "r (a block, n = 255)",
+            points: (1..=8).map(|k| (8.0 * k as f64, block(255, 8 * k))).collect(),
         },
         Panel {
-            label: "D (blocks of n = 255, r = 32)",
-            points: [1, 4, 8, 12, 16]
-                .map(|d| (d as f64, sheet.map(|t| t * d as f64)))
-                .to_vec(),
+            label: "D (a sheet of blocks of n = 255, r = 32)",
+            points: [1, 4, 8, 12, 16].map(|d| (d as f64, sheet(d))).to_vec(),
         },
     ];
     let mut svg = format!(

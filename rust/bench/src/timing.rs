@@ -1,5 +1,6 @@
 //! Times of the coders on one shape, taken in turn: in each round every coder works the same number of times, so that what disturbs the
-//! machine meets all alike. A time is the median over the rounds.
+//! machine meets all alike. A time is the median over the rounds. Calls take many different blocks in turn: a processor learns the
+//! branches that a coder takes on one block by heart.
 
 use std::hint::black_box;
 use std::time::Instant;
@@ -7,6 +8,9 @@ use std::time::Instant;
 use bench::coder::Coder;
 use bench::{coders, turned, Shape};
 use second::random::Random;
+
+/// Calls of one sample.
+const CALLS: usize = 64;
 
 /// Nanoseconds of a call; `None` for work that the coder does not do.
 pub struct Times {
@@ -16,55 +20,66 @@ pub struct Times {
     pub correct: Option<f64>,
 }
 
-/// A coder with its inputs, in its own order of cells.
-struct Bench {
-    coder: Box<dyn Coder>,
+/// One block in a coder's order of cells: its message, itself, and itself with a run of half of r cells wrong.
+struct Block {
     message: Vec<u8>,
     clean: Vec<u8>,
     damaged: Vec<u8>,
+}
+
+impl Block {
+    fn new(coder: &mut dyn Coder, shape: Shape, random: &mut Random) -> Block {
+        let message = turned(coder.highest_first(), &random.bytes(shape.n - shape.r));
+        let mut clean = vec![0; shape.n];
+        coder.write(&message, &mut clean);
+        let mut damaged = clean.clone();
+        let start = random.between(0, shape.n - shape.half());
+        for cell in &mut damaged[start..start + shape.half()] {
+            *cell ^= random.nonzero();
+        }
+        Block {
+            message,
+            clean,
+            damaged,
+        }
+    }
+}
+
+/// A coder with its blocks.
+struct Bench {
+    coder: Box<dyn Coder>,
+    blocks: Vec<Block>,
     out: Vec<u8>,
     samples: [Vec<f64>; 3],
 }
 
 impl Bench {
-    fn new(mut coder: Box<dyn Coder>, shape: Shape, random: &mut Random) -> Bench {
-        let message = turned(coder.highest_first(), &random.bytes(shape.n - shape.r));
-        let mut clean = vec![0; shape.n];
-        coder.write(&message, &mut clean);
-        let mut damaged = clean.clone();
-        let start = (shape.n - shape.half()) / 2;
-        for cell in &mut damaged[start..start + shape.half()] {
-            *cell ^= random.nonzero();
-        }
-        let out = vec![0; shape.n];
+    fn new(mut coder: Box<dyn Coder>, shape: Shape, blocks: usize) -> Bench {
+        let mut random = Random::new(11);
         Bench {
+            blocks: (0..blocks).map(|_| Block::new(&mut *coder, shape, &mut random)).collect(),
             coder,
-            message,
-            clean,
-            damaged,
-            out,
+            out: vec![0; shape.n],
             samples: [vec![], vec![], vec![]],
         }
     }
 
-    fn round(&mut self, calls: usize) {
+    fn round(&mut self) {
         let Bench {
             coder,
-            message,
-            clean,
-            damaged,
+            blocks,
             out,
             samples,
         } = self;
-        samples[0].push(nanoseconds(calls, || coder.write(black_box(message), black_box(out))));
-        samples[1].push(nanoseconds(calls, || assert!(coder.check(black_box(clean)))));
-        samples[2].push(nanoseconds(calls, || {
-            assert_ne!(coder.correct(black_box(damaged), black_box(out)), Some(false))
+        samples[0].push(nanoseconds(blocks, |block| coder.write(black_box(&block.message), black_box(out))));
+        samples[1].push(nanoseconds(blocks, |block| assert!(coder.check(black_box(&block.clean)))));
+        samples[2].push(nanoseconds(blocks, |block| {
+            assert_ne!(coder.correct(black_box(&block.damaged), black_box(out)), Some(false))
         }));
     }
 
     fn times(mut self) -> Times {
-        let corrects = self.coder.correct(&self.damaged, &mut self.out).is_some();
+        let corrects = self.coder.correct(&self.blocks[0].damaged, &mut self.out).is_some();
         let [write, check, correct] = self.samples.map(median);
         Times {
             name: self.coder.name(),
@@ -75,29 +90,29 @@ impl Bench {
     }
 }
 
-fn nanoseconds(calls: usize, mut call: impl FnMut()) -> f64 {
+/// Nanoseconds of a call, over `CALLS` calls that take the inputs in turn.
+pub fn nanoseconds<T>(inputs: &[T], mut call: impl FnMut(&T)) -> f64 {
     let begin = Instant::now();
-    for _ in 0..calls {
-        call();
+    for input in inputs.iter().cycle().take(CALLS) {
+        call(input);
     }
-    begin.elapsed().as_nanos() as f64 / calls as f64
+    begin.elapsed().as_nanos() as f64 / CALLS as f64
 }
 
-fn median(mut samples: Vec<f64>) -> f64 {
+pub fn median(mut samples: Vec<f64>) -> f64 {
     samples.sort_by(f64::total_cmp);
     samples[samples.len() / 2]
 }
 
-/// The times of every linked coder.
-pub fn measure(shape: Shape, rounds: usize) -> Vec<Times> {
-    let mut random = Random::new(11);
+/// The times of every linked coder over so many different blocks.
+pub fn measure(shape: Shape, blocks: usize, rounds: usize) -> Vec<Times> {
     let mut benches: Vec<Bench> = coders(shape)
         .into_iter()
-        .map(|coder| Bench::new(coder, shape, &mut random))
+        .map(|coder| Bench::new(coder, shape, blocks))
         .collect();
     for _ in 0..rounds {
         for bench in &mut benches {
-            bench.round(8);
+            bench.round();
         }
     }
     benches.into_iter().map(Bench::times).collect()

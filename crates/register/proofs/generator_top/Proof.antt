@@ -1,5 +1,5 @@
 -- The invariant: the register holds the generator with i roots, but for its cell 1 on top, and d has the doubles of the next root.
-use mathlib.Core.Path.{_≡_, refl}
+use mathlib.Core.Path.{_≡_}
 use Prim.Native.Nat.{ℕ, _+_, _-_, _≤_, min}
 use native.Mathlib.Omega.{arith}
 use lib.ListN.{take}
@@ -35,14 +35,8 @@ loop-holds c =
     let a = c .before .before .before .before in
     (omega arith, omega (arith, c .before .before .before .clamp .ensures), first-root (a .args .b) _ _ (c .before .alpha-power .ensures) (c .doubles-of .ensures), top-none (a .args .b) _ (c .before .before .blank .ensures))
 
-push-top-requires : tie.Need-push-top-requires Inv-loop μ-loop
-push-top-requires c κs = tt
-
-scale-by-requires : tie.Need-scale-by-requires Inv-loop μ-loop
-scale-by-requires c κs = tt
-
-add-requires : tie.Need-add-requires Inv-loop μ-loop
-add-requires c κs = tt
+with-root-requires : tie.Need-with-root-requires Inv-loop μ-loop
+with-root-requires c κs = tt
 
 next-doubles-requires : tie.Need-next-doubles-requires Inv-loop μ-loop
 next-doubles-requires c κs = tt
@@ -55,12 +49,12 @@ loop-less c = omega arith
 
 loop-again : tie.Need-loop-again Inv-loop μ-loop
 loop-again c =
-    let l = c .before .before .before .before .before .loop in
-    let first : ℕ = c .before .before .before .before .before .before .before .before .before .before .args .b in (
+    let l = c .before .before .before .loop in
+    let first : ℕ = c .before .before .before .before .before .before .before .before .args .b in (
       omega arith,
       l .inv .1,
       next-root first (l .i) _ (c .next-doubles .ensures _ (l .inv .2)),
-      top-more first (l .i) (alpha (first + l .i)) _ _ _ _ (omega arith) refl (l .inv .3) (c .before .before .before .push-top .ensures) (c .before .before .scale-by .ensures _ (l .inv .2)) (c .before .add .ensures),
+      top-more first (l .i) _ _ (omega arith) (l .inv .3) (c .before .with-root .ensures _ (l .inv .2)),
     )
 
 returns : tie.Need-returns Inv-loop μ-loop
@@ -80,9 +74,7 @@ generator-top-spec =
     alpha-power-requires
     doubles-of-requires
     loop-holds
-    push-top-requires
-    scale-by-requires
-    add-requires
+    with-root-requires
     next-doubles-requires
     add-i
     loop-less

@@ -1,12 +1,11 @@
 -- The header in the first five bytes, the lines in the others.
-use Prim.Native.Nat.{ℕ, _+_, _/_}
-use Rattle.plot.specs.Layout.{headerOf}
+use Prim.Native.Nat.{ℕ}
 use native.Mathlib.Omega.{arith}
 use mathlib.Core.Path.{_≡_, refl, sym, ap, _∙_}
 use mathlib.Core.List.{List, _++_}
-use lib.ListN.{length, take, drop}
+use lib.ListN.{length, drop, length-drop}
 use lib.Seq.{length-take-le}
-use Rattle.plot.proofs.Entries.{header-then}
+use Rattle.lists.proofs.Fill.{fill-part}
 use borrow.Author.Needs.{needs}
 use Rattle.plot.proofs.record.put_record.Statement.{statement}
 use Rattle.plot.proofs.record.put_record.Tie as tie
@@ -40,11 +39,12 @@ same-length c = search needs
 
 returns : tie.Need-returns
 returns c =
-    let a = c .before .before .before .before .before .before .before .before .before .before .args in
+    let s = c .before .before .before .before .before .before .before .before .before .before in
+    let a = s .args in
     let h = c .before .before .before .before .before .before .put-header in
-    let k = c .before .before .copy in
-    header-then (a .s .now) (h .last .0) (k .last .1 .0) _ (ap length (h .ensures)) (c .before .before .before .before .before .before .before .before .before .before .pre .0 ∙ ap (λ (l : List ℕ). 5 + length l) (sym (k .ensures))) refl
-    ∙ ap (λ (t : List ℕ). t ++ k .last .1 .0) (h .ensures) ∙ ap (λ (t : List ℕ). headerOf (a .plot) (length (a .lines .now) / 3) ++ t) (k .ensures)
+    let lines : List ℕ = a .lines .now in
+    fill-part 5 _ (h .last .0) (drop 5 (a .s .now)) lines (c .before .before .copy .last .1 .0) (ap length (h .ensures)) (length-drop 5 (a .s .now) ∙ omega (arith, s .pre .0)) refl (c .before .before .copy .ensures .1)
+    ∙ ap (λ (t : List ℕ). t ++ lines) (h .ensures)
 
 pub put-record-spec : {M : Type 1} → statement M
 put-record-spec =

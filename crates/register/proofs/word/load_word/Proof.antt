@@ -7,8 +7,8 @@ use lib.ListN.{length, getD, take, drop}
 use Rattle.register.specs.Words.{bytesFrom}
 use Rattle.register.specs.Register.{shiftUp, padTo}
 use Rattle.register.proofs.Moves.{load-none, load-more, load-all, no-cells}
-use Rattle.register.proofs.load_word.Statement.{statement}
-use Rattle.register.proofs.load_word.Tie as tie
+use Rattle.register.proofs.word.load_word.Statement.{statement}
+use Rattle.register.proofs.word.load_word.Tie as tie
 
 abbrev Inv-loop : tie.InvT-loop
 Inv-loop s k w₀ i₀ w i = (i ≤ length s) × (i ≤ k + 8) × (min k (length s) ≤ i) × (bytesFrom 8 0 w ≡ padTo 8 (drop i (take (k + 8) s)))

@@ -2,8 +2,8 @@
 use native.Mathlib.Omega.{arith}
 use mathlib.Core.Path.{refl}
 use Rattle.register.specs.Words.{byte}
-use Rattle.register.proofs.cell_at.Statement.{statement}
-use Rattle.register.proofs.cell_at.Tie as tie
+use Rattle.register.proofs.word.cell_at.Statement.{statement}
+use Rattle.register.proofs.word.cell_at.Tie as tie
 
 mul-result : tie.Need-mul-result
 mul-result c = omega arith

@@ -1,0 +1,40 @@
+// Laying a block's cells into a lent buffer: check cells below a message, and read cells with an error added to a part of them.
+ghost use mathlib.Core.Path.{_≡_};
+ghost use mathlib.Core.List.{_++_};
+ghost use Prim.Native.Nat.{_+_, _≤_};
+ghost use lib.ListN.{length, take};
+ghost use Rattle.code.specs.Poly.{padd};
+ghost use Rattle.code.specs.Run.{addedAt};
+
+// The first r of the check cells, and the message above them.
+pub fn lay_out(r: usize, checks: [u8; 64], message: &[u8], cells: &mut [u8])
+    requires { ⌜ r ≤ 64 ⌝ }
+    requires { ⌜ length (now cells) ≡ r + length (now message) ⌝ }
+    ensures { λ _. ⌜ now (cells .exit) ≡ take r checks ++ now (message .entry) ⌝ }
+{
+    bytes::copy(&checks[..r], &mut cells[..r]);
+    bytes::copy(message, &mut cells[r..]);
+}
+
+// Adds the lowest cells of an error to a part of a block.
+fn add_error(error: [u8; 64], part: &mut [u8])
+    requires { ⌜ length (now part) ≤ 64 ⌝ }
+    ensures { λ _. ⌜ now (part .exit) ≡ padd (now (part .entry)) (take (length (now (part .entry))) error) ⌝ }
+{
+    let mut i = 0;
+    while i < part.len() {
+        part[i] = part[i] ^ error[i];
+        i += 1;
+    }
+}
+
+// The read cells with the lowest cells of an error added from `start` on.
+pub fn place(read: &[u8], error: [u8; 64], start: usize, size: usize, out: &mut [u8])
+    requires { ⌜ length (now out) ≡ length (now read) ⌝ }
+    requires { ⌜ (start + size ≤ length (now read)) × (size ≤ 64) ⌝ }
+    ensures { λ _. ⌜ now (out .exit) ≡ addedAt start (take size error) (now (read .entry)) ⌝ }
+{
+    let end = start + size;
+    bytes::copy(read, out);
+    add_error(error, &mut out[start..end]);
+}

@@ -1,0 +1,37 @@
+-- Word by word; the words meet at the cell that passes down.
+use Rattle.register.proofs.Cells.{cells-rooted}
+use Rattle.register.proofs.with_root.Statement.{statement}
+use Rattle.register.proofs.with_root.Tie as tie
+
+word-root-requires : tie.Need-word-root-requires
+word-root-requires c κs = tt
+
+word-root-requires-2 : tie.Need-word-root-requires-2
+word-root-requires-2 c κs = tt
+
+word-root-requires-3 : tie.Need-word-root-requires-3
+word-root-requires-3 c κs = tt
+
+word-root-requires-4 : tie.Need-word-root-requires-4
+word-root-requires-4 c κs = tt
+
+word-root-requires-5 : tie.Need-word-root-requires-5
+word-root-requires-5 c κs = tt
+
+word-root-requires-6 : tie.Need-word-root-requires-6
+word-root-requires-6 c κs = tt
+
+word-root-requires-7 : tie.Need-word-root-requires-7
+word-root-requires-7 c κs = tt
+
+at-bottom-requires : tie.Need-at-bottom-requires
+at-bottom-requires c κs = tt
+
+word-root-requires-8 : tie.Need-word-root-requires-8
+word-root-requires-8 c κs = tt
+
+returns : tie.Need-returns
+returns c = λ a d. cells-rooted _ _ a _ 1 (c .before .at-bottom .ensures) (c .before .before .before .before .before .before .before .before .word-root .ensures a d) (c .before .before .before .before .before .before .before .word-root2 .ensures a d) (c .before .before .before .before .before .before .word-root3 .ensures a d) (c .before .before .before .before .before .word-root4 .ensures a d) (c .before .before .before .before .word-root5 .ensures a d) (c .before .before .before .word-root6 .ensures a d) (c .before .before .word-root7 .ensures a d) (c .word-root8 .ensures a d)
+
+pub with-root-spec : {M : Type 1} → statement M
+with-root-spec = tie.close (tie.spec word-root-requires word-root-requires-2 word-root-requires-3 word-root-requires-4 word-root-requires-5 word-root-requires-6 word-root-requires-7 at-bottom-requires word-root-requires-8 returns)

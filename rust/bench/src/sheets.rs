@@ -1,0 +1,56 @@
+//! How long the proved library takes for whole sheets: written, read clean, and read with a scratch of D × h cells, each block's share of
+//! which is corrected.
+
+use std::hint::black_box;
+
+use second::random::Random;
+use tishwabe::Profile;
+
+use crate::timing::{median, nanoseconds};
+
+/// A payload, its sheet, and the sheet with a scratch.
+struct Sheet {
+    payload: Vec<u8>,
+    clean: Vec<u8>,
+    scratched: Vec<u8>,
+}
+
+fn sheet(profile: Profile, random: &mut Random) -> Sheet {
+    let payload = random.bytes(profile.payload_length());
+    let mut clean = vec![0; profile.sheet_length()];
+    profile.write_sheet(&payload, &mut clean).expect("the lengths fit");
+    let length = profile.depth() * profile.h();
+    let start = random.between(0, clean.len() - length);
+    let mut scratched = clean.clone();
+    for cell in &mut scratched[start..start + length] {
+        *cell ^= random.nonzero();
+    }
+    Sheet {
+        payload,
+        clean,
+        scratched,
+    }
+}
+
+/// Nanoseconds of writing, of reading clean and of reading scratched sheets of D blocks of n = 255, r = 32.
+pub fn measure(depth: usize, rounds: usize) -> [f64; 3] {
+    let profile = Profile::new(255, 32, 1, 16, depth).expect("the profile is in range");
+    let mut random = Random::new(11);
+    let sheets: Vec<Sheet> = (0..16).map(|_| sheet(profile, &mut random)).collect();
+    let mut written = vec![0; profile.sheet_length()];
+    let mut scratch = vec![0; profile.sheet_length()];
+    let mut payload = vec![0; profile.payload_length()];
+    let mut samples = [vec![], vec![], vec![]];
+    for _ in 0..rounds {
+        samples[0].push(nanoseconds(&sheets, |s| {
+            assert_eq!(profile.write_sheet(black_box(&s.payload), &mut written), Ok(()))
+        }));
+        samples[1].push(nanoseconds(&sheets, |s| {
+            assert_eq!(profile.read_sheet(black_box(&s.clean), &mut scratch, &mut payload), Ok(0))
+        }));
+        samples[2].push(nanoseconds(&sheets, |s| {
+            assert_eq!(profile.read_sheet(black_box(&s.scratched), &mut scratch, &mut payload), Ok(depth))
+        }));
+    }
+    samples.map(median)
+}
