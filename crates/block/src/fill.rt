@@ -7,7 +7,7 @@ ghost use Rattle.code.specs.Poly.{padd};
 ghost use Rattle.code.specs.Run.{addedAt};
 
 // The first r of the check cells, and the message above them.
-pub fn lay_out(r: usize, checks: [u8; 64], message: &[u8], cells: &mut [u8])
+pub(crate) fn lay_out(r: usize, checks: [u8; 64], message: &[u8], cells: &mut [u8])
     requires { ⌜ r ≤ 64 ⌝ }
     requires { ⌜ length (now cells) ≡ r + length (now message) ⌝ }
     ensures { λ _. ⌜ now (cells .exit) ≡ take r checks ++ now (message .entry) ⌝ }
@@ -29,7 +29,7 @@ fn add_error(error: [u8; 64], part: &mut [u8])
 }
 
 // The read cells with the lowest cells of an error added from `start` on.
-pub fn place(read: &[u8], error: [u8; 64], start: usize, size: usize, out: &mut [u8])
+pub(crate) fn place(read: &[u8], error: [u8; 64], start: usize, size: usize, out: &mut [u8])
     requires { ⌜ length (now out) ≡ length (now read) ⌝ }
     requires { ⌜ (start + size ≤ length (now read)) × (size ≤ 64) ⌝ }
     ensures { λ _. ⌜ now (out .exit) ≡ addedAt start (take size error) (now (read .entry)) ⌝ }

@@ -11,21 +11,21 @@ ghost use Rattle.register.specs.Doubles.{DoublesOf, bitsAt};
 ghost use Rattle.register.specs.Register.{shiftUp, shiftDown, padTo};
 
 // The cell as the highest of a word.
-pub fn at_top(c: u8) -> u64
+pub(crate) fn at_top(c: u8) -> u64
     ensures { λ r. ⌜ byte r 7 ≡ c ⌝ }
 {
     (c as u64) << 56
 }
 
 // The cell as the lowest of a word.
-pub fn at_bottom(c: u8) -> u64
+pub(crate) fn at_bottom(c: u8) -> u64
     ensures { λ r. ⌜ byte r 0 ≡ c ⌝ }
 {
     c as u64
 }
 
 // Cell k of a word.
-pub fn cell_at(w: u64, k: usize) -> u8
+pub(crate) fn cell_at(w: u64, k: usize) -> u8
     requires { ⌜ k < 8 ⌝ }
     ensures { λ r. ⌜ r ≡ byte w k ⌝ }
 {
@@ -33,21 +33,21 @@ pub fn cell_at(w: u64, k: usize) -> u8
 }
 
 // A word moved up by a cell; the highest cell of the word below comes in.
-pub fn word_up(w: u64, below: u64) -> u64
+pub(crate) fn word_up(w: u64, below: u64) -> u64
     ensures { λ r. ⌜ bytesFrom 8 0 r ≡ shiftUp (byte below 7) (bytesFrom 8 0 w) ⌝ }
 {
     (w << 8) ^ (below >> 56)
 }
 
 // A word moved down by a cell; the lowest cell of the word above comes in.
-pub fn word_down(w: u64, above: u64) -> u64
+pub(crate) fn word_down(w: u64, above: u64) -> u64
     ensures { λ r. ⌜ bytesFrom 8 0 r ≡ shiftDown (bytesFrom 8 0 w) (byte above 0) ⌝ }
 {
     (w >> 8) ^ (above << 56)
 }
 
 // The lesser of two counts.
-pub fn least(m: usize, n: usize) -> usize
+pub(crate) fn least(m: usize, n: usize) -> usize
     ensures { λ r. ⌜ r ≡ min m n ⌝ }
 {
     if m < n {
@@ -57,7 +57,7 @@ pub fn least(m: usize, n: usize) -> usize
 }
 
 // Eight cells of a slice as a word, from cell k on, with zeros where it has fewer.
-pub fn load_word(s: &[u8], k: usize) -> u64
+pub(crate) fn load_word(s: &[u8], k: usize) -> u64
     requires { ⌜ k ≤ 56 ⌝ }
     ensures { λ w. ⌜ bytesFrom 8 0 w ≡ padTo 8 (drop k (now (s .entry))) ⌝ }
 {
@@ -71,7 +71,7 @@ pub fn load_word(s: &[u8], k: usize) -> u64
 }
 
 // Each cell of a word doubled: shifted, and 29 added for the bit that leaves.
-pub fn word_twice(w: u64) -> u64
+pub(crate) fn word_twice(w: u64) -> u64
     ensures { λ r. ⌜ bytesFrom 8 0 r ≡ pscale 2 (bytesFrom 8 0 w) ⌝ }
 {
     let l = (w & 0x7f7f7f7f7f7f7f7f) << 1;
@@ -80,7 +80,7 @@ pub fn word_twice(w: u64) -> u64
 }
 
 // How many cells of a word are in use.
-pub fn word_extent(w: u64) -> usize
+pub(crate) fn word_extent(w: u64) -> usize
     ensures { λ r. ⌜ (r ≡ extent (bytesFrom 8 0 w)) × (r ≤ 8) ⌝ }
 {
     8 - (u64::leading_zeros(w) as usize) / 8
@@ -98,7 +98,7 @@ pub struct Doubles {
     c7: u8,
 }
 
-pub fn doubles_of(a: u8) -> Doubles
+pub(crate) fn doubles_of(a: u8) -> Doubles
     ensures { λ d. ⌜ DoublesOf a d ⌝ }
 {
     let c1 = field::double(a);
@@ -121,7 +121,7 @@ pub fn doubles_of(a: u8) -> Doubles
 }
 
 // The doubles of 2 a, from those of a: each moves down by one place.
-pub fn next_doubles(d: Doubles) -> Doubles
+pub(crate) fn next_doubles(d: Doubles) -> Doubles
     ensures { λ e. ⌜ ((a : ℕ) → DoublesOf a d → DoublesOf (mul 2 a) e) ⌝ }
 {
     let c7 = field::double(d.c7);
@@ -146,7 +146,7 @@ fn plane(w: u64, k: u64, c: u8) -> u64
 }
 
 // Each cell of a word times a, over the bits of the cells; a blank word needs no work.
-pub fn word_scale(d: Doubles, w: u64) -> u64
+pub(crate) fn word_scale(d: Doubles, w: u64) -> u64
     ensures { λ r. ⌜ ((a : ℕ) → DoublesOf a d → bytesFrom 8 0 r ≡ pscale a (bytesFrom 8 0 w)) ⌝ }
 {
     if w == 0 {
@@ -158,7 +158,7 @@ pub fn word_scale(d: Doubles, w: u64) -> u64
 }
 
 // A word of a generator's cells with a further root a: the word, and a times the word moved down by a cell.
-pub fn word_root(d: Doubles, w: u64, above: u64) -> u64
+pub(crate) fn word_root(d: Doubles, w: u64, above: u64) -> u64
     ensures { λ r. ⌜ ((a : ℕ) → DoublesOf a d → bytesFrom 8 0 r ≡ padd (bytesFrom 8 0 w) (pscale a (shiftDown (bytesFrom 8 0 w) (byte above 0)))) ⌝ }
 {
     w ^ word_scale(d, word_down(w, above))
