@@ -28,9 +28,9 @@ demands = record {
   };
   second = record { block = writes-codeword; sheet = written-blocks; promise = sheet-promise; plots = written-reads-as-plots };
   third = record {
-    torn = uncorrectable-iff;
-    tied = ambiguous-iff;
-    mended = corrected-iff;
+    uncorrectable = uncorrectable-iff;
+    ambiguous = ambiguous-iff;
+    corrected = corrected-iff;
     exactly-one = exactly-one;
     depth-free = depth-free;
     distance = minimum-distance;

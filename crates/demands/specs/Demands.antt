@@ -38,11 +38,11 @@ pub record Demand2 : Type 0 where
 -- 3. What is read is corrected or refused, and never guessed
 pub record Demand3 : Type 0 where
   -- "a block is torn exactly when no run up to the limit reaches a codeword"
-  pub torn : UncorrectableIff
+  pub uncorrectable : UncorrectableIff
   -- "tied exactly when two different codewords share the shortest length"
-  pub tied : AmbiguousIff
+  pub ambiguous : AmbiguousIff
   -- "else mended to the codeword inside the shortest run"; these facts fix codeword, start and length
-  pub mended : CorrectedIff
+  pub corrected : CorrectedIff
   pub exactly-one : ExactlyOne
   pub depth-free : DepthFree
   -- two codewords differ in more than r cells, so that one within a run of h cells is the only one

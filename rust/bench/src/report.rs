@@ -11,12 +11,15 @@ use crate::timing::Times;
 const BEGIN: &str = "<!-- measured: begin -->\n";
 const END: &str = "<!-- measured: end -->\n";
 
+/// How a kind of work is called, and its time.
+type Work = (String, fn(&Times) -> Option<f64>);
+
 /// One line for each shape, work and coder; the ratio says how many times the proved library's time the coder takes.
 pub fn table(compared: &[(Shape, Vec<Times>)]) -> String {
     let mut text =
         String::from("| n | r | work | coder | time, µs | times the proved library's |\n|---|---|---|---|---|---|\n");
     for (shape, times) in compared {
-        let works: [(String, fn(&Times) -> Option<f64>); 3] = [
+        let works: [Work; 3] = [
             ("writing".into(), |t| Some(t.write)),
             ("checking a clean block".into(), |t| Some(t.check)),
             (format!("correcting a run of {}", shape.half()), |t| t.correct),

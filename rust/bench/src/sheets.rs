@@ -46,10 +46,16 @@ pub fn measure(depth: usize, rounds: usize) -> [f64; 3] {
             assert_eq!(profile.write_sheet(black_box(&s.payload), &mut written), Ok(()))
         }));
         samples[1].push(nanoseconds(&sheets, |s| {
-            assert_eq!(profile.read_sheet(black_box(&s.clean), &mut scratch, &mut payload), Ok(0))
+            assert_eq!(
+                profile.read_sheet(black_box(&s.clean), &mut scratch, &mut payload),
+                Ok(0)
+            )
         }));
         samples[2].push(nanoseconds(&sheets, |s| {
-            assert_eq!(profile.read_sheet(black_box(&s.scratched), &mut scratch, &mut payload), Ok(depth))
+            assert_eq!(
+                profile.read_sheet(black_box(&s.scratched), &mut scratch, &mut payload),
+                Ok(depth)
+            )
         }));
     }
     samples.map(median)

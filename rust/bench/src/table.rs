@@ -19,8 +19,8 @@ impl Table {
         let mut power = [0u8; 510];
         let mut logarithm = [0u16; 256];
         let mut value = 1u16;
-        for exponent in 0..510 {
-            power[exponent] = value as u8;
+        for (exponent, entry) in power.iter_mut().enumerate() {
+            *entry = value as u8;
             if exponent < 255 {
                 logarithm[usize::from(value)] = exponent as u16;
             }

@@ -57,7 +57,9 @@ impl Bench {
     fn new(mut coder: Box<dyn Coder>, shape: Shape, blocks: usize) -> Bench {
         let mut random = Random::new(11);
         Bench {
-            blocks: (0..blocks).map(|_| Block::new(&mut *coder, shape, &mut random)).collect(),
+            blocks: (0..blocks)
+                .map(|_| Block::new(&mut *coder, shape, &mut random))
+                .collect(),
             coder,
             out: vec![0; shape.n],
             samples: [vec![], vec![], vec![]],
@@ -71,8 +73,12 @@ impl Bench {
             out,
             samples,
         } = self;
-        samples[0].push(nanoseconds(blocks, |block| coder.write(black_box(&block.message), black_box(out))));
-        samples[1].push(nanoseconds(blocks, |block| assert!(coder.check(black_box(&block.clean)))));
+        samples[0].push(nanoseconds(blocks, |block| {
+            coder.write(black_box(&block.message), black_box(out))
+        }));
+        samples[1].push(nanoseconds(blocks, |block| {
+            assert!(coder.check(black_box(&block.clean)))
+        }));
         samples[2].push(nanoseconds(blocks, |block| {
             assert_ne!(coder.correct(black_box(&block.damaged), black_box(out)), Some(false))
         }));

@@ -125,7 +125,7 @@ fn table() {
 fn example_sheets() {
     let folder = Path::new(env!("CARGO_MANIFEST_DIR")).join("../../examples/cruise");
     let mut random = Random::new(1);
-    let [written, scratched, torn, tied] = ["written", "scratched", "torn", "tied"].map(|name| {
+    let [written, scratched, uncorrectable, ambiguous] = ["written", "scratched", "torn", "tied"].map(|name| {
         let path = folder.join(name).with_extension("sheet");
         let input = std::fs::read(&path).unwrap_or_else(|error| panic!("{}: {error}", path.display()));
         list(&mut random, &input)
@@ -133,7 +133,10 @@ fn example_sheets() {
     let lines = written.strip_suffix("mended,0\n").expect("a clean sheet");
     assert!(lines.starts_with("plot,species,class,count\n101,"));
     assert_eq!(scratched, format!("{lines}mended,8\n"));
-    assert_eq!((torn.as_str(), tied.as_str()), ("refused,3,3\n", "refused,4,5\n"));
+    assert_eq!(
+        (uncorrectable.as_str(), ambiguous.as_str()),
+        ("refused,3,3\n", "refused,4,5\n")
+    );
 }
 
 /// The longest payload with as many lines as it takes, each of 17 bytes, and every block changed: no text is longer.

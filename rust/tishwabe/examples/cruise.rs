@@ -61,7 +61,12 @@ fn sheets() -> Result<[(&'static str, Vec<u8>); 4], Error> {
     for (i, value) in generator[..11].iter().enumerate() {
         ambiguous[cell(i, 5)] ^= value;
     }
-    Ok([("written", written), ("scratched", scratched), ("torn", uncorrectable), ("tied", ambiguous)])
+    Ok([
+        ("written", written),
+        ("scratched", scratched),
+        ("torn", uncorrectable),
+        ("tied", ambiguous),
+    ])
 }
 
 fn main() {
