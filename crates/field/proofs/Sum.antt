@@ -10,31 +10,21 @@ use lib.Arith.{bin-ind, lt-one}
 use lib.Pow.{split, pow-pos, shr-lt}
 use lib.Dec.{T, eqb}
 use lib.Bits.{bitXor, differ, xor-step, xor-comm, xor-self, xor-zero-r, xor-lt, xor-mod, xor-shr, xor-block, xor-shifted}
-use Rattle.lists.proofs.Test.{all, equal-below}
+use Rattle.lists.proofs.Test.{all, equal-below, equal-bits}
 use Rattle.field.specs.Field.{add}
 
 -- ---- exclusive or associates, bit by bit
 
 differ-assoc : (x y z : ℕ) → x < 2 → y < 2 → z < 2 → differ (differ x y) z ≡ differ x (differ y z)
-differ-assoc zero y z hx hy hz = refl
-differ-assoc (suc zero) zero z hx hy hz = refl
-differ-assoc (suc zero) (suc zero) zero hx hy hz = refl
-differ-assoc (suc zero) (suc zero) (suc zero) hx hy hz = refl
-differ-assoc (suc zero) (suc zero) (suc (suc z)) hx hy hz = omega arith
-differ-assoc (suc zero) (suc (suc y)) z hx hy hz = absurd (omega arith)
-differ-assoc (suc (suc x)) y z hx hy hz = absurd (omega arith)
+differ-assoc = equal-bits (λ x y z. differ (differ x y) z) (λ x y z. differ x (differ y z)) tt
 
 bit-differ : (x y : ℕ) → x < 2 → y < 2 → bitXor x y ≡ differ x y
-bit-differ zero y hx hy = refl
-bit-differ (suc zero) zero hx hy = refl
-bit-differ (suc zero) (suc zero) hx hy = refl
-bit-differ (suc zero) (suc (suc y)) hx hy = absurd (omega arith)
-bit-differ (suc (suc x)) y hx hy = absurd (omega arith)
+bit-differ x y hx hy = equal-bits (λ x y z. bitXor x y) (λ x y z. differ x y) tt x y 0 hx hy (omega arith)
 
 pub bit-lt : (n : ℕ) → n % 2 < 2
 bit-lt n = mod-lt n (zero-lt-suc 1)
 
-low-differ : (a b : ℕ) → bitXor a b % 2 ≡ differ (a % 2) (b % 2)
+pub low-differ : (a b : ℕ) → bitXor a b % 2 ≡ differ (a % 2) (b % 2)
 low-differ a b = xor-mod a b 1 ∙ bit-differ (a % 2) (b % 2) (bit-lt a) (bit-lt b)
 
 xor-assoc : (a b c : ℕ) → bitXor (bitXor a b) c ≡ bitXor a (bitXor b c)

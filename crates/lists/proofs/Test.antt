@@ -33,6 +33,13 @@ all-at f (suc n) t i h =
 pub equal-below : (f g : ℕ → ℕ) (n : ℕ) → T (all (λ i. eqb (f i) (g i)) n) → (i : ℕ) → i < n → f i ≡ g i
 equal-below f g n t i h = eqb→eq (f i) (g i) (all-at (λ k. eqb (f k) (g k)) n t i h)
 
+-- and at all triples of bits
+pub equal-bits : (f g : ℕ → ℕ → ℕ → ℕ) → T (all (λ x. all (λ y. all (λ z. eqb (f x y z) (g x y z)) 2) 2) 2)
+    → (x y z : ℕ) → x < 2 → y < 2 → z < 2 → f x y z ≡ g x y z
+equal-bits f g t x y z hx hy hz =
+    equal-below (f x y) (g x y) 2
+    (all-at (λ b. all (λ c. eqb (f x b c) (g x b c)) 2) 2 (all-at (λ a. all (λ b. all (λ c. eqb (f a b c) (g a b c)) 2) 2) 2 t x hx) y hy) z hz
+
 pub lt-or-ge : (i j : ℕ) → (i < j) ⊎ (j ≤ i)
 lt-or-ge i zero = inr zero-le
 lt-or-ge zero (suc j) = inl (suc-le-suc zero-le)

@@ -11,7 +11,7 @@ use lib.Dec.{T, lit<}
 use lib.Pow.{shr-shr, split, high, low}
 use Rattle.lists.proofs.Test.{all, all-at, equal-below}
 use Rattle.field.specs.Field.{add, mul, mulBits, double}
-use Rattle.field.proofs.Sum.{Additive, agree-byte, add-low}
+use Rattle.field.proofs.Sum.{Additive, agree-byte, bit-lt, add-low}
 use Rattle.field.proofs.Product.{mul-add, mul-zero, mul-one, mul-two, mul-lt, one-mul, mul-comm, mul-assoc, mul-left-comm}
 use Rattle.code.specs.Poly.{padd, pscale, Bytes}
 use Rattle.code.proofs.Poly.{pscale-zero}
@@ -82,9 +82,6 @@ bit-byte k hk =
     (λ j. after (λ v. byte v j) (λ v. bitAnd (shr k v) ones) (byte-add j) (after (λ v. bitAnd v ones) (shr k) (and-add ones) (shr-add k)))
     (λ j. after (λ x. x / 2 ^ k % 2) (λ v. byte v j) (bit-add k) (byte-add j)) 8
     (all-at (λ m. all (λ j. all (agreeB (λ v. byte (bitAnd (shr m v) ones) j) (λ v. byte v j / 2 ^ m % 2)) 64) 8) 8 bit-test k hk)
-
-bit-lt : (n : ℕ) → n % 2 < 2
-bit-lt n = native.Mathlib.Nat.mod-lt n (omega arith)
 
 plane-byte : (k c w : ℕ) → k < 8 → c < 256 → w < 2 ^ 64 → (j : ℕ) → j < 8 → byte (bitAnd (w / 2 ^ k) ones * c) j ≡ mul c (byte w j / 2 ^ k % 2)
 plane-byte k c w hk hc hw j hj =

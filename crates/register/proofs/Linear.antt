@@ -10,9 +10,9 @@ use lib.Pow.{pow-pos}
 use lib.Dec.{T, eqb, eqb→eq}
 use lib.Bits.{bitXor, bitAnd, differ, and-step, xor-shr, xor-mod, xor-block}
 use Rattle.field.proofs.Product.{mul-add}
-use Rattle.field.proofs.Sum.{Additive, agree-below, add-self, add-zero-r, add-swap}
+use Rattle.field.proofs.Sum.{Additive, agree-below, bit-lt, low-differ, add-self, add-zero-r, add-swap}
 use Rattle.field.specs.Field.{add, mul, mulBits, double}
-use Rattle.lists.proofs.Test.{all, all-at}
+use Rattle.lists.proofs.Test.{all, all-at, equal-bits}
 use Rattle.register.specs.Words.{byte}
 
 unfoldable pub agreeB : (ℕ → ℕ) → (ℕ → ℕ) → ℕ → Bool
@@ -52,34 +52,10 @@ unfolding add
 shr-add k a b = xor-shr a b k
 
 bit-and : (x y z : ℕ) → x < 2 → y < 2 → z < 2 → min (differ x y) z ≡ bitXor (min x z) (min y z)
-bit-and zero zero zero hx hy hz = refl
-bit-and zero zero (suc zero) hx hy hz = refl
-bit-and zero zero (suc (suc z)) hx hy hz = absurd (omega arith)
-bit-and zero (suc zero) zero hx hy hz = refl
-bit-and zero (suc zero) (suc zero) hx hy hz = refl
-bit-and zero (suc zero) (suc (suc z)) hx hy hz = absurd (omega arith)
-bit-and zero (suc (suc y)) z hx hy hz = absurd (omega arith)
-bit-and (suc zero) zero zero hx hy hz = refl
-bit-and (suc zero) zero (suc zero) hx hy hz = refl
-bit-and (suc zero) zero (suc (suc z)) hx hy hz = absurd (omega arith)
-bit-and (suc zero) (suc zero) zero hx hy hz = refl
-bit-and (suc zero) (suc zero) (suc zero) hx hy hz = refl
-bit-and (suc zero) (suc zero) (suc (suc z)) hx hy hz = absurd (omega arith)
-bit-and (suc zero) (suc (suc y)) z hx hy hz = absurd (omega arith)
-bit-and (suc (suc x)) y z hx hy hz = absurd (omega arith)
-
-m2 : (n : ℕ) → n % 2 < 2
-m2 n = native.Mathlib.Nat.mod-lt n (omega arith)
+bit-and = equal-bits (λ x y z. min (differ x y) z) (λ x y z. bitXor (min x z) (min y z)) tt
 
 min-lt : (x y : ℕ) → x < 2 → min x y < 2
 min-lt x y h = omega (arith, native.Mathlib.Nat.min-le-left x y)
-
-bit-differ : (x y : ℕ) → x < 2 → y < 2 → bitXor x y ≡ differ x y
-bit-differ zero y hx hy = refl
-bit-differ (suc zero) zero hx hy = refl
-bit-differ (suc zero) (suc zero) hx hy = refl
-bit-differ (suc zero) (suc (suc y)) hx hy = absurd (omega arith)
-bit-differ (suc (suc x)) y hx hy = absurd (omega arith)
 
 pub and-add : (m : ℕ) → Additive (λ w. bitAnd w m)
 unfolding add
@@ -92,10 +68,10 @@ and-add m a b = law a b m
         and-step (bitXor n b) m
         ∙ ap₂ (λ (x y : ℕ). x * 2 + y)
         (ap (λ (x : ℕ). bitAnd x (m / 2)) (xor-shr n b 1) ∙ ih (b / 2) (m / 2))
-        (ap (λ (x : ℕ). min x (m % 2)) (xor-mod n b 1 ∙ bit-differ (n % 2) (b % 2) (m2 n) (m2 b))
-        ∙ bit-and (n % 2) (b % 2) (m % 2) (m2 n) (m2 b) (m2 m))
+        (ap (λ (x : ℕ). min x (m % 2)) (low-differ n b)
+        ∙ bit-and (n % 2) (b % 2) (m % 2) (bit-lt n) (bit-lt b) (bit-lt m))
         ∙ sym (xor-block 1 (bitAnd (n / 2) (m / 2)) (bitAnd (b / 2) (m / 2)) (min (n % 2) (m % 2)) (min (b % 2) (m % 2))
-        (min-lt (n % 2) (m % 2) (m2 n)) (min-lt (b % 2) (m % 2) (m2 b)))
+        (min-lt (n % 2) (m % 2) (bit-lt n)) (min-lt (b % 2) (m % 2) (bit-lt b)))
         ∙ sym (ap₂ bitXor (and-step n m) (and-step b m))) a
 
 none-add : Additive (λ w. 0)
