@@ -1,24 +1,22 @@
 -- A written block: the check cells are the remainder of the message with r zeros below it, so both have the same syndromes and their
 -- sum has none; and two codewords with one message differ in the r check cells at most.
-use mathlib.Core.Path.{_≡_, refl, sym, ap, ap₂, _∙_, subst}
-use mathlib.Core.Logic.{inl, inr, ⊎-elim}
-use mathlib.Core.List.{List, [], _∷_, _++_}
-use Prim.Native.Nat.{ℕ, zero, suc, _+_, _-_, _≤_, _<_}
+use mathlib.Core.Path.{_≡_, sym, ap, ap₂, _∙_}
+use mathlib.Core.Logic.{⊎-elim}
+use mathlib.Core.List.{List, _++_}
+use Prim.Native.Nat.{ℕ, _+_, _-_, _≤_, _<_}
 use native.Mathlib.Omega.{arith}
-use lib.ListN.{length, getD, take, drop, replicate, length-append}
+use lib.ListN.{length, getD, drop, replicate, length-append}
 use lib.Seq.{drop-at, getD-drop}
 use Rattle.field.specs.Field.{add, mul, power, alpha}
 use Rattle.field.proofs.Sum.{add-self}
 use Rattle.code.specs.Poly.{Bytes, eval}
-use Rattle.code.specs.Code.{generator, remainder, Codeword, syndrome, distance}
+use Rattle.code.specs.Code.{Codeword, syndrome}
 use Rattle.code.proofs.Poly.{append-bytes, zeros-bytes, eval-append, eval-zeros}
 use Rattle.code.proofs.Division.{remainder-length, remainder-bytes, remainder-syndrome, syndromes-codeword}
 use Rattle.code.proofs.Shifted.{distance-run}
 use Rattle.code.proofs.Theorems.{minimum-distance}
-use Rattle.block.specs.Profile.{InRange, messageLength}
 use Rattle.block.specs.Block.{checkCells, encode}
-use Rattle.block.specs.Promises.{WrittenBlock, WritesCodeword, Word}
-use Rattle.block.specs.declared.Profile.{Profile}
+use Rattle.block.specs.Promises.{WritesCodeword, Word}
 
 module _ (b r : ℕ) (m : List ℕ) where
   pub check-length : length (checkCells b r m) ≡ r

@@ -1,19 +1,19 @@
 -- The cases of an entry, over plain values: refusal 1, refusal 2, and what the register gives for an accepted block.
-use mathlib.Core.Path.{_≡_, refl, sym, ap, ap₂, _∙_, subst}
+use mathlib.Core.Path.{_≡_, sym, ap, ap₂, _∙_}
 use mathlib.Core.Bool.{Bool, true, false}
-use mathlib.Core.List.{List, [], _∷_, _++_}
-use Prim.Native.Nat.{ℕ, zero, suc, _+_, _-_, _≤_, _<_, min}
+use mathlib.Core.List.{List, _++_}
+use Prim.Native.Nat.{ℕ, _+_, _-_, _≤_, _<_, min}
 use native.Mathlib.Nat.{min-eq-left}
 use native.Mathlib.Omega.{arith}
 use lib.Dec.{eqb}
 use lib.ListN.{length, getD, take, drop, replicate, take-append-drop, length-drop}
 use lib.Seq.{length-take-le, take-all, take-at, getD-append-add}
-use borrow.Author.Tests.{eq-eqb, ne-eqb, eqb-true}
+use borrow.Author.Tests.{eq-eqb, ne-eqb}
 use Rattle.lists.specs.Choice.{pick, both}
 use Rattle.code.specs.Poly.{Bytes, padd}
 use Rattle.code.specs.Code.{generator, remainder}
-use Rattle.code.specs.Run.{ZeroFrom, backSteps, shiftedRemainder, addedAt}
-use Rattle.code.specs.Search.{extent, extents, scanned}
+use Rattle.code.specs.Run.{ZeroFrom}
+use Rattle.code.specs.Search.{extent}
 use Rattle.code.proofs.Poly.{getD-zeros, take-bytes, drop-bytes}
 use Rattle.code.proofs.Division.{remainder-length}
 use Rattle.register.specs.Register.{padTo, onTop, feeds, monicOf, backGenerator}
@@ -21,16 +21,15 @@ use Rattle.register.proofs.Align.{pad-sum, drop-top, pad-is}
 use Rattle.register.proofs.Forward.{feeds-top}
 use Rattle.register.proofs.Generator.{monic-generator}
 use Rattle.register.proofs.LastCell.{extent-pad}
-use Rattle.register.proofs.Remainder.{left-length, remainder-feeds, check-cells}
+use Rattle.register.proofs.Remainder.{remainder-feeds, check-cells}
 use Rattle.block.specs.Profile.{InRange, inRange, messageLength}
-use Rattle.block.specs.Block.{checkCells, encode, refusing, isClean, decided, judged, verdict, filled, checkAnswer, writeFits, writeAnswer, writeLeaves, correctFits, correctAnswer, correctLeaves}
+use Rattle.block.specs.Block.{checkCells, encode, refusing, isClean, verdict, filled, checkAnswer, writeFits, writeAnswer, writeLeaves, correctFits, correctAnswer, correctLeaves}
 use Rattle.block.specs.Found.{generatorOnTop}
 use Rattle.block.specs.declared.Verdict.{Verdict}
 use Rattle.block.specs.declared.Verdict.the-variants as verdicts
 use Rattle.block.specs.declared.Written.the-variants as writes
 use Rattle.block.specs.declared.Checked.the-variants as checks
 use Rattle.block.specs.declared.Profile.{Profile}
-use Rattle.block.proofs.Ranges.{in-range}
 use Rattle.block.proofs.Encoding.{check-length}
 
 -- ---- refusals

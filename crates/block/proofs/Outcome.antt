@@ -1,8 +1,8 @@
 -- A clean block is copied. Of another, what the search's state says is the verdict, and the codeword's cells are the read cells plus the kept shifted
 -- remainder.
-use mathlib.Core.Path.{_≡_, refl, sym, ap, ap₂, _∙_, subst}
-use mathlib.Core.Bool.{Bool, true, false}
-use mathlib.Core.List.{List, [], _∷_, _++_}
+use mathlib.Core.Path.{_≡_, sym, ap, _∙_, subst}
+use mathlib.Core.Bool.{true, false}
+use mathlib.Core.List.{List, _++_}
 use Prim.Native.Nat.{ℕ, _+_, _-_, _≤_, _<_, zero-le}
 use native.Mathlib.Omega.{arith}
 use lib.ListN.{length, take, drop, replicate}
@@ -25,7 +25,6 @@ use Rattle.block.specs.Found.{bestOf, Searched}
 use Rattle.block.specs.Promises.{Cells}
 use Rattle.block.specs.declared.Profile.{Profile}
 use Rattle.block.specs.declared.Found.{Found}
-use Rattle.block.specs.declared.Verdict.{Verdict}
 use Rattle.block.specs.declared.Verdict.the-variants.{Uncorrectable, Ambiguous, Corrected}
 use Rattle.block.proofs.Shortest.{best, scan, clean-verdict, wrong-verdict}
 use Rattle.block.proofs.Promises.{added-none}

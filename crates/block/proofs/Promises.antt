@@ -1,29 +1,27 @@
 -- The promises of specs/Promises.antt. A block is clean, or the search has found what it means; each equivalence goes by these cases.
 use mathlib.Core.Path.{_≡_, refl, sym, ap, ap₂, _∙_, subst}
-use mathlib.Core.Logic.{_↔_, _≢_, _⊎_, inl, inr, ⊎-elim}
-use mathlib.Core.Bool.{Bool, true, false}
-use mathlib.Core.List.{List, [], _∷_, _++_}
-use Prim.Native.Nat.{ℕ, zero, suc, _+_, _≤_, _<_, zero-le}
+use mathlib.Core.Logic.{_≢_, _⊎_, inl, inr, ⊎-elim}
+use mathlib.Core.Bool.{true, false}
+use mathlib.Core.List.{List, []}
+use Prim.Native.Nat.{ℕ, zero, suc, _≤_, _<_, zero-le}
 use native.Mathlib.Omega.{arith}
-use lib.Dec.{eqb, ltb}
+use lib.Dec.{ltb}
 use lib.ListN.{length, take}
-use borrow.Author.Tests.{ltb-true, ltb-false, lt-ltb, le-ltb, eqb-true, eqb-false}
-use Rattle.lists.specs.Choice.{pick}
+use borrow.Author.Tests.{ltb-true, ltb-false, lt-ltb, le-ltb}
 use Rattle.lists.proofs.Test.{true-or-false, true-false}
 use Rattle.code.specs.Poly.{padd}
-use Rattle.code.specs.Code.{Codeword}
 use Rattle.code.specs.Run.{shiftedRemainder, addedAt}
 use Rattle.code.specs.Search.{Best}
 use Rattle.code.proofs.Poly.{padd-zeros}
 use Rattle.code.proofs.Division.{codeword-syndromes, syndromes-codeword}
 use Rattle.code.proofs.Theorems.{two-runs}
-use Rattle.block.specs.Profile.{InRange, half}
+use Rattle.block.specs.Profile.{InRange}
 use Rattle.block.specs.Block.{isClean, decided, judged, verdict, filled, corrected}
-use Rattle.block.specs.Promises.{Cells, Word, Reached, Least, NoneReached, TwoReached, OneReached, CleanIff, UncorrectableIff, AmbiguousIff, CorrectedIff, OneOfThree, ExactlyOne, DepthFree, HalfPromise}
+use Rattle.block.specs.Promises.{Cells, Word, Reached, NoneReached, TwoReached, OneReached, CleanIff, UncorrectableIff, AmbiguousIff, CorrectedIff, ExactlyOne, DepthFree, HalfPromise}
 use Rattle.block.specs.declared.Profile.{Profile}
 use Rattle.block.specs.declared.Verdict.{Verdict}
 use Rattle.block.specs.declared.Verdict.the-variants.{BadProfile, WrongLength, Uncorrectable, Ambiguous, Corrected}
-use Rattle.block.proofs.Shortest.{empty-run, word, best, e, scan, reach-word, extent-reach, clean-word, word-clean, clean-verdict, wrong-verdict, not-empty, reach-start, reach-size, small, best-reach, best-least, at-size, apart}
+use Rattle.block.proofs.Shortest.{empty-run, word, best, e, scan, reach-word, extent-reach, clean-word, word-clean, clean-verdict, wrong-verdict, reach-start, reach-size, small, best-reach, best-least, at-size, apart}
 
 -- three verdicts that differ
 uncorrectable-ambiguous : _≡_ {A = Verdict} Uncorrectable Ambiguous → ⊥

@@ -1,11 +1,8 @@
 -- The test of the five ranges is true exactly if each number is in its range.
-use mathlib.Core.Path.{_≡_, refl, sym}
+use mathlib.Core.Path.{_≡_, sym}
 use mathlib.Core.Logic.{_↔_, ⊎-elim}
-use mathlib.Core.Bool.{Bool, true, false}
-use Prim.Native.Nat.{ℕ}
-use lib.Dec.{leb, ltb}
+use mathlib.Core.Bool.{true, false}
 use borrow.Author.Tests.{leb-true, ltb-true, le-leb, lt-ltb}
-use Rattle.lists.specs.Choice.{both}
 use Rattle.lists.proofs.Test.{both-true, true-or-false}
 use Rattle.block.specs.Profile.{InRange, inRange}
 use Rattle.block.specs.declared.Profile.{Profile}

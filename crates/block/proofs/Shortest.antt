@@ -1,21 +1,19 @@
 -- What the search says of runs. A run shorter than r reaches a codeword exactly if it is at least as long as the extent of its shifted
 -- remainder, and then one only; two starts of the least length reach different codewords, since a common one would lie within a shorter run.
-use mathlib.Core.Path.{_≡_, refl, sym, ap, _∙_, subst}
+use mathlib.Core.Path.{_≡_, refl, sym, _∙_, subst}
 use mathlib.Core.Logic.{_↔_, _≢_, _⊎_, inl, inr, ⊎-elim}
-use mathlib.Core.Bool.{Bool, true, false}
-use mathlib.Core.List.{List, [], _∷_, _++_}
-use Prim.Native.Nat.{ℕ, zero, suc, _+_, _-_, _≤_, _<_, zero-le}
-use native.Mathlib.Nat.{le-trans, eq-or-lt-of-le}
+use mathlib.Core.Bool.{true, false}
+use mathlib.Core.List.{List, []}
+use Prim.Native.Nat.{ℕ, zero, suc, _+_, _-_, _≤_, _<_}
+use native.Mathlib.Nat.{eq-or-lt-of-le}
 use native.Mathlib.Omega.{arith}
-use lib.Dec.{eqb, ltb}
-use lib.ListN.{length, getD, take}
+use lib.ListN.{length, take}
 use lib.Seq.{ext-getD}
-use borrow.Author.Tests.{eqb-true, eq-eqb, ltb-true, ltb-false, lt-ltb, le-ltb}
-use Rattle.lists.specs.Choice.{pick}
-use Rattle.lists.proofs.Test.{lt-or-ge, true-or-false, true-false}
-use Rattle.code.specs.Poly.{Bytes, eval, padd}
-use Rattle.code.specs.Code.{generator, remainder, syndrome, Codeword}
-use Rattle.code.specs.Run.{Outside, Reaches, ZeroFrom, shiftedRemainder, addedAt}
+use borrow.Author.Tests.{eqb-true, eq-eqb}
+use Rattle.lists.proofs.Test.{lt-or-ge, true-false}
+use Rattle.code.specs.Poly.{eval}
+use Rattle.code.specs.Code.{generator, remainder}
+use Rattle.code.specs.Run.{Reaches, ZeroFrom, shiftedRemainder, addedAt}
 use Rattle.code.specs.Search.{Best, extent, extents, scanned}
 use Rattle.code.proofs.Poly.{eval-same}
 use Rattle.code.proofs.Distance.{zero-at}
@@ -26,8 +24,7 @@ use Rattle.block.specs.Profile.{InRange}
 use Rattle.block.specs.Block.{isClean, decided, judged, verdict}
 use Rattle.block.specs.Promises.{Cells, Word, Reached, Least}
 use Rattle.block.specs.declared.Profile.{Profile}
-use Rattle.block.specs.declared.Verdict.{Verdict}
-use Rattle.block.specs.declared.Verdict.the-variants.{Uncorrectable, Ambiguous, Corrected}
+use Rattle.block.specs.declared.Verdict.the-variants.{Corrected}
 
 -- a run of no cells reaches the read cells alone
 pub empty-run : (n r b : ℕ) (y : List ℕ) (s : ℕ) (c : List ℕ) → length y ≡ n → Reaches n r b y s 0 c → c ≡ y

@@ -1,7 +1,7 @@
 -- What each entry on a block answers and leaves in its buffers, as equations that compute (clauses B4 to B10, E1 to E5). Refusal 1 goes
 -- before 2, and 2 before the rest. The verdict reads the cells and n, r, b, L only.
-use mathlib.Core.Bool.{Bool, true, false}
-use mathlib.Core.List.{List, [], _∷_, _++_}
+use mathlib.Core.Bool.{Bool}
+use mathlib.Core.List.{List, [], _++_}
 use Prim.Native.Nat.{ℕ}
 use lib.Dec.{eqb, ltb}
 use lib.ListN.{length, take, replicate}

@@ -3,12 +3,10 @@
 // contract gives the answer and every lent byte by a definition of specs/Block.antt.
 ghost use mathlib.Core.Path.{_≡_};
 ghost use mathlib.Core.Bool.{false};
-ghost use mathlib.Core.List.{_++_};
-ghost use Prim.Native.Nat.{_+_, _≤_, _<_};
+ghost use Prim.Native.Nat.{_+_, _<_};
 ghost use lib.ListN.{length, take};
-ghost use Rattle.code.specs.Poly.{padd};
 ghost use Rattle.code.specs.Code.{generator, remainder};
-ghost use Rattle.code.specs.Run.{ZeroFrom, addedAt};
+ghost use Rattle.code.specs.Run.{ZeroFrom};
 ghost use Rattle.register.specs.Words.{cells};
 ghost use Rattle.register.specs.Register.{padTo};
 ghost use Rattle.block.specs.Profile.{InRange, inRange, messageLength, half};

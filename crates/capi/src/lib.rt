@@ -5,7 +5,6 @@ ghost use mathlib.Core.Path.{_≡_};
 ghost use Rattle.block.specs.Profile.{messageLength, half};
 ghost use Rattle.block.specs.Block.{verdictNumber, verdictStart, verdictLength, writtenNumber, checkedNumber, writeAnswer, writeLeaves, checkAnswer, correctAnswer, correctLeaves};
 ghost use Rattle.sheet.specs.Sheet as sheets;
-ghost use Rattle.plot.specs.Layout.{Plot};
 ghost use Rattle.plot.specs.Grammar.{reading};
 ghost use Rattle.plot.specs.Answers.{checked, located, added, payloadWith};
 ghost use Rattle.listing_text.specs.Text.{listingText, refusalText};

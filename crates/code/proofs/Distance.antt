@@ -1,21 +1,20 @@
 -- The minimum distance: at most 255 bytes, of which at most r are not zero, with r syndromes that are all zero, are all zero.
 -- By induction on r, and then along the word. A zero in front is taken off. Of a word x ∷ c with x ≢ 0 take c(2 z) + c(z): that clears
 -- the cell in front, multiplies the cell at j by α^j + 1, which is not zero, and costs one syndrome.
-use mathlib.Core.Path.{_≡_, refl, sym, ap, ap₂, _∙_, subst}
-use mathlib.Core.Logic.{_≢_, ⊎-elim}
+use mathlib.Core.Path.{_≡_, refl, sym, ap, ap₂, _∙_}
+use mathlib.Core.Logic.{⊎-elim}
 use mathlib.Core.List.{List, [], _∷_}
 use Prim.Native.Nat.{ℕ, zero, suc, _+_, _≤_, _<_, zero-le, suc-le-suc}
 use native.Mathlib.Nat.{add-suc, suc-inj}
 use native.Mathlib.Omega.{arith}
 use lib.Dec.{eqb}
 use lib.ListN.{length, getD}
-use lib.Seq.{ext-getD}
 use borrow.Author.Tests.{eqb-true}
 use Rattle.lists.specs.Choice.{pick}
 use Rattle.lists.proofs.Test.{true-or-false}
 use Rattle.field.specs.Field.{add, mul, power, alpha}
-use Rattle.field.proofs.Sum.{add-self, add-eq, add-zero-l, add-zero-r, add-lt}
-use Rattle.field.proofs.Product.{mul-lt, mul-comm, mul-zero, zero-mul, one-mul, mul-one, ring}
+use Rattle.field.proofs.Sum.{add-self, add-eq, add-lt}
+use Rattle.field.proofs.Product.{mul-lt, mul-comm, zero-mul, one-mul, mul-one, ring}
 use Rattle.field.proofs.Power.{power-lt, alpha-ne-zero, alpha-ne-one, mul-eq-zero}
 use Rattle.code.specs.Poly.{Bytes, eval, padd}
 use Rattle.code.specs.Code.{syndrome, distance}

@@ -1,10 +1,10 @@
 -- Division by a monic polynomial, with exact lengths, and what it says of codewords: n byte cells are a multiple of the generator by
 -- n − r cells exactly if their syndromes are zero. The remainder has the word's syndromes; if those are zero, it is zero by distance.
-use mathlib.Core.Path.{_≡_, refl, sym, ap, ap₂, _∙_, subst}
-use mathlib.Core.Logic.{_↔_, ⊎-elim}
+use mathlib.Core.Path.{_≡_, refl, sym, ap, ap₂, _∙_}
+use mathlib.Core.Logic.{⊎-elim}
 use mathlib.Core.List.{List, [], _∷_}
 use Prim.Native.Nat.{ℕ, zero, suc, _+_, _-_, _≤_, _<_}
-use native.Mathlib.Nat.{le-of-suc-le-suc, eq-or-lt-of-le, suc-inj}
+use native.Mathlib.Nat.{le-of-suc-le-suc, eq-or-lt-of-le}
 use native.Mathlib.Omega.{arith}
 use lib.ListN.{length, getD, take, replicate, length-replicate, List·getD-eq-default}
 use lib.Seq.{length-take-le, getD-take, ext-getD}
@@ -15,8 +15,8 @@ use Rattle.field.proofs.Product.{mul-zero, zero-mul, mul-one, ring}
 use Rattle.code.specs.Poly.{Bytes, eval, padd, pscale, pmul}
 use Rattle.code.specs.Code.{generator, syndrome, Codeword, remStep, remainder}
 use Rattle.code.specs.Theorems.{Syndromes-zero}
-use Rattle.code.proofs.Poly.{getD-padd, getD-pscale, getD-zeros, getD-byte, padd-length, padd-bytes, pscale-length, pscale-bytes, take-bytes, zeros-bytes, pmul-length, eval-padd, eval-pscale, eval-pmul, eval-same, eval-zeros}
-use Rattle.code.proofs.Generator.{generator-bytes, generator-length, generator-monic, generator-root}
+use Rattle.code.proofs.Poly.{getD-padd, getD-pscale, getD-zeros, getD-byte, padd-length, padd-bytes, pscale-length, pscale-bytes, take-bytes, zeros-bytes, pmul-length, eval-padd, eval-pscale, eval-pmul, eval-same}
+use Rattle.code.proofs.Generator.{generator-length, generator-monic, generator-root}
 use Rattle.code.proofs.Distance.{Zero, zero-at, few-cells, weight-le}
 
 -- the feedback cells of the first k steps: the quotient of k + r cells

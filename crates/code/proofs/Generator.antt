@@ -1,19 +1,19 @@
 -- The generator: r + 1 byte cells, the highest 1 and the lowest not zero, with the value 0 at each of its roots. Each follows from
 -- one law, that a further root a makes of g the sum of a g and x g.
-use mathlib.Core.Path.{_≡_, refl, sym, ap, ap₂, _∙_, subst}
+use mathlib.Core.Path.{_≡_, refl, sym, ap, ap₂, _∙_}
 use mathlib.Core.Logic.{_≢_, ⊎-elim}
 use mathlib.Core.List.{List, [], _∷_}
-use Prim.Native.Nat.{ℕ, zero, suc, _+_, _-_, _≤_, _<_}
+use Prim.Native.Nat.{ℕ, zero, suc, _+_, _-_, _<_}
 use native.Mathlib.Nat.{le-of-suc-le-suc, not-suc-le-zero, eq-or-lt-of-le}
 use native.Mathlib.Omega.{arith}
 use lib.ListN.{length, getD, List·getD-eq-default}
-use Rattle.field.specs.Field.{add, mul, power, alpha}
-use Rattle.field.proofs.Sum.{add-self, add-zero-l, add-zero-r, add-comm}
-use Rattle.field.proofs.Product.{mul-zero, zero-mul, one-mul, mul-one, mul-comm, add-mul}
+use Rattle.field.specs.Field.{add, mul, alpha}
+use Rattle.field.proofs.Sum.{add-self, add-zero-l, add-zero-r}
+use Rattle.field.proofs.Product.{mul-zero, zero-mul, add-mul}
 use Rattle.field.proofs.Power.{power-lt, alpha-ne-zero, mul-ne-zero}
 use Rattle.code.specs.Poly.{Bytes, eval, padd, pscale, pmul}
 use Rattle.code.specs.Code.{generator}
-use Rattle.code.proofs.Poly.{getD-padd, getD-pscale, getD-byte, padd-length-r, padd-zeros, padd-bytes, pscale-length, pscale-bytes, pscale-one, pmul-bytes, pmul-length, eval-padd, eval-pscale, eval-cons-zero}
+use Rattle.code.proofs.Poly.{getD-padd, getD-pscale, getD-byte, padd-zeros, pscale-one, pmul-bytes, pmul-length, eval-padd, eval-pscale, eval-cons-zero}
 
 pub generator-bytes : (b r : ℕ) → Bytes (generator b r)
 unfolding generator

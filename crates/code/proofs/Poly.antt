@@ -8,10 +8,10 @@ use native.Mathlib.Omega.{arith}
 use lib.ListN.{length, getD, take, drop, replicate}
 use lib.Seq.{ext-getD}
 use Rattle.field.specs.Field.{add, mul, power}
-use Rattle.field.proofs.Sum.{add-assoc, add-comm, add-self, add-eq, add-zero-l, add-zero-r, add-lt}
+use Rattle.field.proofs.Sum.{add-assoc, add-comm, add-eq, add-zero-l, add-zero-r, add-lt}
 use Rattle.field.proofs.Product.{mul-lt, add-mul, mul-assoc, mul-zero, zero-mul, one-mul, ring}
 use Rattle.code.specs.Poly.{Bytes, eval, padd, pscale, pmul}
-use Rattle.code.specs.Run.{tail, addedAt}
+use Rattle.code.specs.Run.{tail}
 
 -- ---- cells
 

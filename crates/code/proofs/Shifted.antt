@@ -4,7 +4,7 @@ use mathlib.Core.Path.{_≡_, refl, sym, ap, ap₂, _∙_, subst}
 use mathlib.Core.Logic.{_≢_, _⊎_, inl, inr, ⊎-elim}
 use mathlib.Core.Bool.{Bool, true, false}
 use mathlib.Core.List.{List, [], _∷_, _++_}
-use Prim.Native.Nat.{ℕ, zero, suc, _+_, _-_, _*_, _≤_, _<_, zero-le}
+use Prim.Native.Nat.{ℕ, zero, suc, _+_, _-_, _≤_, _<_, zero-le}
 use native.Mathlib.Nat.{suc-inj}
 use native.Mathlib.Omega.{arith}
 use lib.Dec.{eqb}
@@ -14,11 +14,11 @@ use borrow.Author.Tests.{eqb-true, eq-eqb}
 use Rattle.lists.specs.Choice.{pick}
 use Rattle.lists.proofs.Test.{lt-or-ge, true-or-false}
 use Rattle.field.specs.Field.{add, mul, power, alpha, inverse}
-use Rattle.field.proofs.Sum.{add-self, add-zero-l, add-zero-r, add-cancel, add-assoc}
+use Rattle.field.proofs.Sum.{add-self, add-zero-l, add-zero-r, add-cancel}
 use Rattle.field.proofs.Product.{mul-assoc, mul-comm, mul-left-comm, mul-zero, one-mul, mul-one}
-use Rattle.field.proofs.Power.{power-lt, power-mul, power-ne-zero, alpha-ne-zero, mul-inverse, mul-cancel}
+use Rattle.field.proofs.Power.{power-lt, power-ne-zero, alpha-ne-zero, mul-inverse, mul-cancel}
 use Rattle.code.specs.Poly.{Bytes, eval, padd, pscale}
-use Rattle.code.specs.Code.{generator, syndrome, Codeword, remainder, distance}
+use Rattle.code.specs.Code.{generator, syndrome, remainder, distance}
 use Rattle.code.specs.Run.{Outside, Reaches, tail, backStep, backSteps, shiftedRemainder, ZeroFrom, addedAt}
 use Rattle.code.proofs.Poly.{getD-padd, getD-pscale, getD-zeros, getD-byte, padd-length, padd-length-r, padd-bytes, pscale-length, pscale-bytes, take-bytes, drop-bytes, tail-length, tail-bytes, zeros-bytes, append-bytes, eval-lt, eval-padd, eval-pscale, eval-zeros, eval-same, eval-head}
 use Rattle.code.proofs.Generator.{generator-bytes, generator-length, generator-low, generator-root}

@@ -4,7 +4,7 @@ use mathlib.Core.Path.{_≡_}
 use mathlib.Core.Logic.{_⊎_}
 use mathlib.Core.List.{List, [], _∷_, _++_}
 use Prim.Native.Nat.{ℕ, zero, suc, _+_, _≤_, _<_}
-use lib.ListN.{getD, take, replicate}
+use lib.ListN.{getD, replicate}
 use Rattle.field.specs.Field.{mul, inverse}
 use Rattle.code.specs.Poly.{padd, pscale}
 use Rattle.code.specs.Code.{Codeword, generator, remainder}

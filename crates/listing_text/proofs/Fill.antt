@@ -1,15 +1,14 @@
 -- Text in a buffer, piece after piece; digits; and what a buffer holds that was filled from its first byte on.
-use Prim.Native.Nat.{ℕ, zero, suc, _+_, _*_, _-_, _/_, _%_, _<_, _≤_, min}
+use Prim.Native.Nat.{ℕ, zero, suc, _+_, _-_, _/_, _%_, _<_, _≤_, min}
 use native.Mathlib.Omega.{arith}
-use native.Mathlib.Nat.{not-suc-le-zero, div-mul-le-self, mod-eq-of-lt, le-refl}
+use native.Mathlib.Nat.{div-mul-le-self, mod-eq-of-lt, le-refl}
 use native.Mathlib.Numerals.{add-one}
 use mathlib.Core.Path.{_≡_, refl, sym, ap, _∙_}
-use mathlib.Core.Bool.{Bool, true, false}
-use mathlib.Core.List.{List, [], _∷_, _++_, append-assoc, append-nil}
-use lib.ListN.{length, take, drop, getD, set, length-append, length-set, drop-of-length-le}
+use mathlib.Core.List.{List, [], _∷_, _++_, append-nil}
+use lib.ListN.{length, take, drop, getD, set, length-append, drop-of-length-le}
 use lib.Seq.{drop-cons, take-nil, take-all, take-at, drop-nil, set-append-seam, append-snoc}
 use lib.Dec.{ltb}
-use borrow.Author.Tests.{lt-ltb, le-ltb, ltb-false}
+use borrow.Author.Tests.{lt-ltb, le-ltb}
 use Rattle.lists.specs.Choice.{pick}
 use Rattle.listing_text.specs.Text.{digits, decimal}
 use Rattle.listing_text.specs.Buffer.{Buffer, buffer, putByte, putAll, textIn, textLength}

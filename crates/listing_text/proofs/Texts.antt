@@ -1,20 +1,20 @@
 -- The texts line by line and plot by plot, as the loops write them: a line of a payload's record, and a record of an accepted payload.
-use Prim.Native.Nat.{ℕ, zero, suc, _+_, _*_, _-_, _/_, _<_, _≤_}
+use Prim.Native.Nat.{ℕ, zero, suc, _+_, _*_, _-_, _<_, _≤_}
 use native.Mathlib.Omega.{arith}
 use native.Mathlib.Nat.{le-refl}
 use mathlib.Core.Path.{_≡_, refl, sym, ap, _∙_}
 use mathlib.Core.List.{List, [], _∷_, _++_}
-use lib.ListN.{length, take, drop, getD, take-append-drop}
+use lib.ListN.{length, take, drop, take-append-drop}
 use lib.Seq.{drop-drop}
-use Rattle.plot.specs.Layout.{Plot, headerLength, recordLength, lineOf, linesOf}
-use Rattle.plot.specs.Grammar.{stepAt, Reading, Plots, Stopped, readFrom, reading}
+use Rattle.plot.specs.Layout.{Plot, headerLength, lineOf}
+use Rattle.plot.specs.Grammar.{stepAt, Reading, Plots, Stopped, readFrom}
 use Rattle.plot.specs.Answers.{numberOf, placeOf}
 use Rattle.plot.specs.declared.Line.{Line}
 use Rattle.plot.specs.declared.Cursor.{Cursor}
 use Rattle.plot.specs.declared.Refusal.{Refusal}
 use Rattle.plot.specs.declared.Step.the-variants.{Record}
 use Rattle.plot.proofs.Cases.{bounds, past-header}
-use Rattle.plot.proofs.Sound.{here, lines-here, count-here, Accepts}
+use Rattle.plot.proofs.Sound.{lines-here, count-here}
 use Rattle.plot.proofs.Entries.{go}
 use Rattle.listing_text.specs.Text.{newline, field, header, mended, lineText, linesText, plotsText, readText, refusalText, listingText}
 

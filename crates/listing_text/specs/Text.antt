@@ -1,9 +1,8 @@
 -- The text of the plot lister's answer (L2), as bytes: "a header, one line per tally line (plot, species, class, count), and the word `mended`, a
 -- comma and the number of blocks changed. A refusal prints only `refused,number,place`." Each line ends in the byte 0A.
 use Prim.Native.Nat.{ℕ, zero, suc, _+_, _*_, _/_, _%_}
-use mathlib.Core.Bool.{Bool, true, false}
 use mathlib.Core.List.{List, [], _∷_, _++_}
-use lib.ListN.{length, getD, drop}
+use lib.ListN.{length, drop}
 use lib.Dec.{ltb}
 use Rattle.lists.specs.Choice.{pick}
 use Rattle.plot.specs.Layout.{Plot, lineOf, linesOf}

@@ -1,17 +1,15 @@
 -- The statements of specs/Canonical.antt. What is read is sound, what is written is read back (Sound, Complete); adding a plot to the payload of
 -- plots gives the payload of one plot more, so that both directions follow by induction on the plots.
-use Prim.Native.Nat.{ℕ, zero, suc, zero-le, _+_, _*_, _-_, _/_, _%_, _<_, _≤_}
+use Prim.Native.Nat.{ℕ, zero, suc, zero-le, _+_, _*_, _-_, _%_, _<_, _≤_}
 use native.Mathlib.Omega.{arith}
 use native.Mathlib.Nat.{div-add-mod', mul-mod-left, sub-zero, add-zero, zero-add}
 use mathlib.Core.Path.{_≡_, refl, sym, ap, _∙_}
-use mathlib.Core.Logic.{_↔_}
-use mathlib.Core.Bool.{Bool, true, false, not}
+use mathlib.Core.Bool.{Bool, true, false}
 use mathlib.Core.List.{List, [], _∷_, _++_, append-assoc, append-nil}
-use lib.ListN.{length, take, drop, getD, replicate, length-append, length-drop, length-replicate}
+use lib.ListN.{length, take, drop, replicate, length-append}
 use lib.Seq.{take-at, drop-append-add, append-snoc}
 use lib.Dec.{ltb, eqb}
 use borrow.Author.Tests.{eq-eqb, ne-eqb, ltb-true, ltb-false}
-use Rattle.plot.specs.declared.Refusal.{Refusal}
 use Rattle.plot.specs.declared.Refusal.the-variants.{Full}
 use Rattle.plot.specs.declared.Located.{Located}
 use Rattle.plot.specs.declared.Located.the-variants as located-as
@@ -19,13 +17,12 @@ use Rattle.plot.specs.declared.Added.{Added}
 use Rattle.plot.specs.declared.Added.the-variants as added-as
 use Rattle.lists.specs.Choice.{pick}
 use Rattle.plot.specs.Layout.{Plot, noLine, linesHold, linesOf, recordOf}
-use Rattle.plot.specs.Grammar.{Reading, Plots, Stopped, longest, reading}
-use Rattle.plot.specs.Answers.{lastNumber, seek, located, partOf, asked, addedAt, added, payloadAfter, payloadWith}
-use Rattle.plot.specs.Canonical.{Holds, Rising, bytesOf, payloadOf, Bytes, Outcome, Written, NotWritten, addThen, addAll, WrittenAsRead, ReadAsWritten, AcceptedForm, AskedIsRecord, AddedIsFound, RefusedUnchanged, FullExactly}
+use Rattle.plot.specs.Grammar.{Plots, longest, reading}
+use Rattle.plot.specs.Answers.{lastNumber, seek, located, partOf, asked, added, payloadAfter, payloadWith}
+use Rattle.plot.specs.Canonical.{Holds, Rising, bytesOf, payloadOf, Written, addThen, addAll, WrittenAsRead, ReadAsWritten, AcceptedForm, AskedIsRecord, AddedIsFound, RefusedUnchanged, FullExactly}
 use Rattle.plot.proofs.Lists.{part-front, part-middle}
-use Rattle.plot.proofs.Sound.{Sound}
 use Rattle.plot.proofs.Complete.{payload-length, reading-complete}
-use Rattle.plot.proofs.Entries.{reading-reads, reading-sound, Taken, taken, added-plots, add-here, add-full, left-as-was, located-plots, Within, within-seek}
+use Rattle.plot.proofs.Entries.{reading-reads, reading-sound, taken, added-plots, add-here, add-full, left-as-was, located-plots, Within, within-seek}
 
 -- plots in a row
 pub bytes-append : (ps qs : List Plot) → bytesOf (ps ++ qs) ≡ bytesOf ps ++ bytesOf qs

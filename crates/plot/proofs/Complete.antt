@@ -1,22 +1,19 @@
 -- Records as written are read back: from plots that hold and rise, with zeros after them, the reading gives those plots.
 -- By induction on the plots: each record passes every check of its step.
-use Prim.Native.Nat.{ℕ, zero, suc, zero-le, suc-le-suc, _+_, _*_, _-_, _/_, _%_, _<_, _≤_}
+use Prim.Native.Nat.{ℕ, zero, suc, _+_, _*_, _-_, _<_, _≤_}
 use native.Mathlib.Omega.{arith}
 use native.Mathlib.Nat.{mod-add-div', add-zero, zero-add}
 use mathlib.Core.Path.{_≡_, refl, sym, ap, _∙_}
-use mathlib.Core.Bool.{Bool, true, false, not}
+use mathlib.Core.Bool.{true}
 use mathlib.Core.List.{List, [], _∷_, _++_, append-assoc}
-use lib.ListN.{length, take, drop, getD, replicate, length-append, length-replicate}
+use lib.ListN.{length, drop, replicate, length-append, length-replicate}
 use lib.Seq.{take-at, drop-at}
-use borrow.Author.Tests.{le-ltb}
 use Rattle.plot.specs.declared.Cursor.{Cursor}
-use Rattle.plot.specs.declared.Step.{Step}
-use Rattle.plot.specs.declared.Step.the-variants.{Record, End, Refused}
-use Rattle.lists.specs.Choice.{pick}
-use Rattle.plot.specs.Layout.{Plot, mark, headerLength, plotOf, countOf, recordLength, noLine, linesHold, linesOf, recordOf}
-use Rattle.plot.specs.Grammar.{allZero, agree, headAt, stepAt, Reading, Plots, onto, readFrom, longest, reading}
+use Rattle.plot.specs.declared.Step.the-variants.{Record, End}
+use Rattle.plot.specs.Layout.{Plot, mark, headerLength, plotOf, recordLength, noLine, linesHold, linesOf, recordOf}
+use Rattle.plot.specs.Grammar.{allZero, agree, headAt, stepAt, Plots, onto, readFrom, longest, reading}
 use Rattle.plot.specs.Canonical.{Holds, Rising, bytesOf, payloadOf}
-use Rattle.plot.proofs.Cases.{head-record, read-end, plotHere, read-on, reading-short}
+use Rattle.plot.proofs.Cases.{head-record, read-end, read-on, reading-short}
 use Rattle.plot.proofs.Sound.{lines-prefix}
 
 all-zeros : (n : ℕ) → allZero (replicate n 0) ≡ true

@@ -1,19 +1,19 @@
 -- What the entries on a payload answer, from an accepted or a stopped reading: where a plot lies, and where one may be added.
 -- A turn of the search follows the reading by one record; all that is found lies within the payload.
-use Prim.Native.Nat.{ℕ, zero, suc, _+_, _*_, _-_, _/_, _%_, _<_, _≤_}
+use Prim.Native.Nat.{ℕ, _+_, _-_, _%_, _<_, _≤_}
 use native.Mathlib.Omega.{arith}
 use native.Mathlib.Nat.{le-refl}
 use mathlib.Core.Path.{_≡_, refl, sym, ap, _∙_}
 use mathlib.Core.Bool.{true, false, not}
 use mathlib.Core.List.{List, [], _∷_, _++_}
-use lib.ListN.{length, take, drop, getD, length-append}
+use lib.ListN.{length, take, drop, length-append}
 use lib.Seq.{drop-drop}
 use lib.Dec.{leb, ltb, eqb}
 use borrow.Author.Tests.{le-ltb, lt-ltb, le-leb, lt-leb, eq-eqb, ne-eqb, ltb-false, leb-false, eqb-true, eqb-false, not-false}
 use Rattle.plot.specs.declared.Cursor.{Cursor}
 use Rattle.plot.specs.declared.Refusal.{Refusal}
-use Rattle.plot.specs.declared.Refusal.the-variants.{WrongLength, BadTally, PlotOrder, NoSuchPlot, Full}
-use Rattle.plot.specs.declared.Step.the-variants.{Record, End, Refused}
+use Rattle.plot.specs.declared.Refusal.the-variants.{BadTally, PlotOrder, NoSuchPlot, Full}
+use Rattle.plot.specs.declared.Step.the-variants.{Record, Refused}
 use Rattle.plot.specs.declared.Checked.the-variants as checked-as
 use Rattle.plot.specs.declared.Located.{Located}
 use Rattle.plot.specs.declared.Located.the-variants as located-as
@@ -23,7 +23,7 @@ use Rattle.plot.specs.Layout.{Plot, recordLength, noLine, linesHold, lin
 use Rattle.plot.specs.Grammar.{stepAt, Reading, Plots, Stopped, readFrom, longest, reading}
 use Rattle.plot.specs.Answers.{lastNumber, checkedOf, checked, seek, locatedOf, located, partOf, linesFit, addedAt, addedOf, added, payloadAfter, payloadWith}
 use Rattle.plot.specs.Canonical.{bytesOf}
-use Rattle.plot.proofs.Cases.{pick-out, bounds, read-end}
+use Rattle.plot.proofs.Cases.{pick-out, bounds}
 use Rattle.plot.proofs.Sound.{not-stopped, here, Accepts, accepts, length-here, Sound, sound}
 
 -- an accepted payload is short enough, and sound

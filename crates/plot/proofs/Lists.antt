@@ -1,7 +1,7 @@
 -- Laws on lists that say nothing of plots.
-use Prim.Native.Nat.{ℕ, zero, suc, _+_, _*_, _-_, _/_, _%_, _<_, _≤_}
+use Prim.Native.Nat.{ℕ, _+_, _*_, _-_, _/_, _%_, _<_, _≤_}
 use native.Mathlib.Omega.{arith}
-use mathlib.Core.Path.{_≡_, refl, sym, ap, _∙_}
+use mathlib.Core.Path.{_≡_, refl, ap, _∙_}
 use mathlib.Core.List.{List, [], _∷_, _++_}
 use native.Mathlib.Nat.{zero-add, add-mul-mod-self-right, add-mul-div-right, mod-eq-of-lt, div-eq-of-lt}
 use lib.ListN.{length, take, drop, getD, set, length-drop}

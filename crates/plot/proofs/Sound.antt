@@ -1,23 +1,23 @@
 -- What an accepted reading says of the payload: its plots hold and rise, their records stand from its first byte on, and zeros follow.
 -- By induction on the steps of the reading, a record at a time.
-use Prim.Native.Nat.{ℕ, zero, suc, zero-le, suc-le-suc, _+_, _*_, _-_, _/_, _%_, _<_, _≤_}
+use Prim.Native.Nat.{ℕ, zero, suc, zero-le, suc-le-suc, _+_, _*_, _-_, _/_, _<_, _≤_}
 use native.Mathlib.Omega.{arith}
 use native.Mathlib.Nat.{not-suc-le-zero, le-refl, sub-zero, mul-div-left}
 use mathlib.Core.Path.{_≡_, refl, sym, ap, _∙_}
 use mathlib.Core.Bool.{Bool, true, false, not}
 use mathlib.Core.List.{List, [], _∷_, _++_, append-assoc}
-use lib.ListN.{length, take, drop, getD, replicate, length-append, length-drop, length-take, length-replicate, take-append-drop}
+use lib.ListN.{length, take, drop, getD, replicate, length-append, length-drop, take-append-drop}
 use lib.Seq.{take-append-add, length-take-le, getD-drop}
 use lib.Dec.{leb, ltb, eqb, lit<}
 use borrow.Author.Tests.{leb-true, leb-false, eqb-true}
 use Rattle.plot.specs.declared.Cursor.{Cursor}
 use Rattle.plot.specs.declared.Line.{Line}
 use Rattle.plot.specs.declared.Refusal.{Refusal}
-use Rattle.plot.specs.declared.Refusal.the-variants.{BadMark, BadTally, PlotOrder}
+use Rattle.plot.specs.declared.Refusal.the-variants.{BadMark}
 use Rattle.plot.specs.declared.Step.{Step}
 use Rattle.plot.specs.declared.Step.the-variants.{Record, End, Refused}
 use Rattle.lists.specs.Choice.{pick}
-use Rattle.plot.specs.Layout.{Plot, mark, headerLength, plotOf, countOf, recordLength, noLine, lineHolds, linesHold, linesOf, headerOf, recordOf}
+use Rattle.plot.specs.Layout.{Plot, mark, headerLength, plotOf, countOf, recordLength, noLine, lineHolds, linesHold, linesOf, recordOf}
 use Rattle.plot.specs.Grammar.{allZero, agree, headAt, stepAt, Reading, Plots, Stopped, onto, readFrom}
 use Rattle.plot.specs.Canonical.{Holds, Rising, bytesOf, payloadOf, Bytes}
 use Rattle.plot.proofs.Lists.{front-five, low-byte, high-byte}

@@ -1,18 +1,17 @@
 -- The canonical form of a payload (R1, R6): the records of its plots in turn, then zeros. The statements say that reading and adding agree on it;
 -- proofs/Canonical.antt proves them.
-use Prim.Native.Nat.{ℕ, zero, suc, _+_, _*_, _-_, _<_, _≤_}
+use Prim.Native.Nat.{ℕ, _+_, _*_, _-_, _<_, _≤_}
 use mathlib.Core.Path.{_≡_}
 use mathlib.Core.Logic.{_↔_}
-use mathlib.Core.Bool.{Bool, true, false}
+use mathlib.Core.Bool.{true}
 use mathlib.Core.List.{List, [], _∷_, _++_}
 use lib.ListN.{length, getD, replicate}
 use Rattle.plot.specs.Layout.{Plot, noLine, linesHold, linesOf, recordOf}
-use Rattle.plot.specs.Grammar.{Reading, Plots, reading, longest}
+use Rattle.plot.specs.Grammar.{Plots, reading, longest}
 use Rattle.plot.specs.declared.Added.{Added}
 use Rattle.plot.specs.declared.Added.the-variants as added-as
 use Rattle.plot.specs.declared.Refusal.{Refusal}
 use Rattle.plot.specs.declared.Refusal.the-variants.{Full}
-use Rattle.plot.specs.declared.Located.{Located}
 use Rattle.plot.specs.declared.Located.the-variants as located-as
 use Rattle.plot.specs.Answers.{lastNumber, located, asked, added, payloadWith}
 

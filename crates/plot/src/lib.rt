@@ -14,7 +14,6 @@ use tally::lines_hold;
 ghost use mathlib.Core.Path.{_≡_};
 ghost use Prim.Native.Nat.{_≤_};
 ghost use lib.ListN.{drop};
-ghost use Rattle.plot.specs.Layout.{Plot};
 ghost use Rattle.plot.specs.Grammar.{stepAt, reading, Accepted};
 ghost use Rattle.plot.specs.Answers.{numberOf, placeOf, checked, located, asked, addedAt, added, payloadWith};
 

@@ -4,9 +4,9 @@ use crate::Cursor;
 use crate::Refusal;
 use crate::Step;
 ghost use mathlib.Core.Path.{_≡_};
-ghost use Prim.Native.Nat.{ℕ, _+_, _≤_, _<_, _^_};
+ghost use Prim.Native.Nat.{_+_, _≤_, _<_, _^_};
 ghost use lib.ListN.{length};
-ghost use Rattle.plot.specs.Layout.{Plot, mark, headerLength, headerOf, recordOf};
+ghost use Rattle.plot.specs.Layout.{mark, headerLength, headerOf, recordOf};
 ghost use Rattle.plot.specs.Grammar.{allZero, agree, headAt};
 
 // The mark before each record: compared by the reader, written by `add`.

@@ -2,7 +2,7 @@
 // Each meets its definition of specs/Layout.antt.
 use crate::Line;
 ghost use mathlib.Core.Path.{_≡_};
-ghost use Prim.Native.Nat.{ℕ, _+_, _≤_, _/_};
+ghost use Prim.Native.Nat.{_+_, _≤_, _/_};
 ghost use lib.ListN.{length, drop};
 ghost use Rattle.plot.specs.Layout.{within, rises, lineOf, lineHolds, linesHold, noLine};
 

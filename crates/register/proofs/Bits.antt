@@ -1,20 +1,18 @@
 -- A word times a byte, by planes of bits: the product of a word whose cells are bits with a byte has no carry, so its cells are the products;
 -- and a cell is the sum of its bits, each with its power of two.
 use mathlib.Core.Path.{_≡_, refl, sym, ap, ap₂, _∙_}
-use mathlib.Core.Bool.{Bool}
 use mathlib.Core.List.{List, [], _∷_}
 use Prim.Native.Nat.{ℕ, zero, suc, _+_, _*_, _/_, _%_, _^_, _<_, _≤_}
 use native.Mathlib.Nat.{div-one, mul-right-comm, mul-le-mul, add-mul as ℕ-add-mul}
 use native.Mathlib.Omega.{arith}
 use lib.Bits.{bitAnd, bitXor, and-le-r}
-use lib.Dec.{T, lit<}
+use lib.Dec.{T}
 use lib.Pow.{shr-shr, split, high, low}
 use Rattle.lists.proofs.Test.{all, all-at, equal-below}
 use Rattle.field.specs.Field.{add, mul, mulBits, double}
 use Rattle.field.proofs.Sum.{Additive, agree-byte, bit-lt, add-low}
 use Rattle.field.proofs.Product.{mul-add, mul-zero, mul-one, mul-two, mul-lt, one-mul, mul-comm, mul-assoc, mul-left-comm}
 use Rattle.code.specs.Poly.{padd, pscale, Bytes}
-use Rattle.code.proofs.Poly.{pscale-zero}
 use Rattle.register.specs.Words.{byte, bytesFrom}
 use Rattle.register.specs.Doubles.{DoublesOf, bitsAt}
 use Rattle.register.specs.declared.word.Doubles.{Doubles}

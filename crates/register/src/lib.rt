@@ -1,7 +1,7 @@
 // A shift register of 64 cells, each a byte of GF(256): eight words of eight cells, by value. Its contracts are equations on the list of its
 // cells, the lowest first. Each function works on a word at a time by the operations of the module `word`.
 ghost use mathlib.Core.Path.{_≡_};
-ghost use Prim.Native.Nat.{ℕ, _<_, _≤_, _*_, _-_, _/_, _%_, _^_, min};
+ghost use Prim.Native.Nat.{ℕ, _<_, _*_, _-_, _/_, _%_, _^_, min};
 ghost use lib.Dec.{eqb};
 ghost use lib.ListN.{getD, take, drop, replicate};
 ghost use Rattle.field.specs.Field.{add};

@@ -1,7 +1,6 @@
 -- `block::improved` meets its contract: each of its four returns is a case of `improvedBy`.
 use borrow.Author.Needs.{needs}
 use native.Mathlib.Omega.{arith}
-use mathlib.Core.Path.{_≡_, refl, sym, _∙_}
 use Rattle.code.proofs.Search.{extent-le}
 use Rattle.register.specs.Words.{cells}
 use Rattle.register.proofs.Cells.{cells-length}

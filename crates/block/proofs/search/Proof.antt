@@ -1,7 +1,7 @@
 -- `block::search` meets its contract. The invariant: before start s the register is the shifted remainder by s, f is its lowest cell, and what was
 -- found is what the definition finds among the starts below s.
 use borrow.Author.Needs.{needs}
-use Prim.Native.Nat.{ℕ, _≤_, _<_, _-_, _+_, _%_, _/_, _*_}
+use Prim.Native.Nat.{ℕ, _≤_, _<_, _-_, _%_, _/_}
 use native.Mathlib.Omega.{arith}
 use mathlib.Core.Path.{_≡_, refl, ap, _∙_}
 use mathlib.Core.List.{List}

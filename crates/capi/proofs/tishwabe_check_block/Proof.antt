@@ -1,5 +1,5 @@
 -- The checker's answer, at the profile of the five numbers, as its two numbers.
-use mathlib.Core.Path.{_≡_, ap, _∙_}
+use mathlib.Core.Path.{ap, _∙_}
 use Rattle.block.specs.declared.Profile.{Profile}
 use Rattle.block.specs.Block.{checkedNumber, checkAnswer}
 use Rattle.capi.specs.Numbers.{cleanFlag}

@@ -1,5 +1,5 @@
 -- The corrector's answer and cells, at the profile of the five numbers, with the three numbers of the answer.
-use mathlib.Core.Path.{_≡_, ap, _∙_}
+use mathlib.Core.Path.{ap, _∙_}
 use Rattle.block.specs.declared.Profile.{Profile}
 use Rattle.block.specs.Block.{verdictNumber, verdictStart, verdictLength, correctAnswer, correctLeaves}
 use Rattle.capi.proofs.Laws.{number-of}

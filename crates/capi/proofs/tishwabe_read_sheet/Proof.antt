@@ -1,5 +1,5 @@
 -- The reader's answer and buffers, at the profile of the five numbers, with the three numbers of the answer.
-use mathlib.Core.Path.{_≡_, ap, _∙_}
+use mathlib.Core.Path.{ap, _∙_}
 use Rattle.block.specs.declared.Profile.{Profile}
 use Rattle.sheet.specs.Sheet.{readAnswer, readScratch, readPayload}
 use Rattle.capi.specs.Numbers.{readingNumber, readingPlace, readingChanged}

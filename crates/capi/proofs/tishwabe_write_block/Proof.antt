@@ -1,5 +1,5 @@
 -- The writer's answer and cells, at the profile of the five numbers.
-use mathlib.Core.Path.{_≡_, ap, _∙_}
+use mathlib.Core.Path.{ap, _∙_}
 use Rattle.block.specs.declared.Profile.{Profile}
 use Rattle.block.specs.Block.{writtenNumber, writeAnswer, writeLeaves}
 use Rattle.capi.proofs.Laws.{number-of}

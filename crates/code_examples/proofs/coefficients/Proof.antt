@@ -1,7 +1,6 @@
 -- `code_examples::coefficients` meets its contract: each turn reads at an index below the length. The measure is what is left of the length.
 use borrow.Author.Needs.{needs}
 use Prim.Native.Nat.{_≤_, _-_}
-use native.Mathlib.Omega.{arith}
 use lib.ListN.{length}
 use Rattle.code_examples.proofs.coefficients.Statement.{statement}
 use Rattle.code_examples.proofs.coefficients.Tie as tie

@@ -1,10 +1,9 @@
 -- The digits before the last, by a call with a tenth of the number, and then the last digit. The measure is the number.
-use Prim.Native.Nat.{_+_, _/_, _%_}
+use Prim.Native.Nat.{_+_}
 use native.Mathlib.Omega.{arith}
 use native.Mathlib.Nat.{mod-lt, div-mul-le-self}
-use mathlib.Core.Path.{_≡_, refl, sym, ap, _∙_}
+use mathlib.Core.Path.{sym, ap, _∙_}
 use lib.Dec.{lit<}
-use Rattle.listing_text.specs.Text.{decimal}
 use Rattle.listing_text.specs.Buffer.{buffer, putAll}
 use Rattle.listing_text.proofs.Fill.{put-one, put-then, decimal-one, decimal-more}
 use Prim.Native.Nat.{ℕ, _<_}

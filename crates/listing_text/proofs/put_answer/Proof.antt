@@ -1,5 +1,5 @@
 -- Header, lines, the word and the number in turn.
-use mathlib.Core.Path.{_≡_, ap, _∙_}
+use mathlib.Core.Path.{ap, _∙_}
 use mathlib.Core.List.{List}
 use Prim.Native.Nat.{ℕ}
 use Rattle.listing_text.specs.Buffer.{buffer, putAll}

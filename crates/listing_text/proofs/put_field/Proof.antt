@@ -1,5 +1,5 @@
 -- The digits, then the byte after them.
-use mathlib.Core.Path.{_≡_, _∙_}
+use mathlib.Core.Path.{_∙_}
 use Rattle.listing_text.specs.Text.{field}
 use Rattle.listing_text.proofs.Fill.{put-one, put-then}
 use borrow.Author.Needs.{needs}

@@ -1,5 +1,5 @@
 -- What is left to write are the plots from the cursor on; the measure is the bytes left. No step of an accepted payload is a refusal.
-use Prim.Native.Nat.{ℕ, _+_, _*_, _-_, _≤_, _<_}
+use Prim.Native.Nat.{ℕ, _+_, _-_, _≤_}
 use native.Mathlib.Omega.{arith}
 use mathlib.Core.Path.{_≡_, refl, sym, ap, _∙_}
 use mathlib.Core.List.{List}
@@ -11,7 +11,7 @@ use Rattle.plot.specs.Grammar.{stepAt, Plots, readFrom, reading}
 use Rattle.plot.proofs.Cases.{Bounds, bounds, read-end, read-refused}
 use Rattle.plot.proofs.Sound.{not-stopped}
 use Rattle.plot.proofs.Entries.{reading-reads, no-plots, go, go-reads}
-use Rattle.listing_text.specs.Text.{linesText, plotsText, readText}
+use Rattle.listing_text.specs.Text.{plotsText, readText}
 use Rattle.listing_text.specs.Buffer.{buffer, putAll}
 use Rattle.listing_text.proofs.Fill.{put-append}
 use Rattle.listing_text.proofs.Texts.{plots-next, plots-none, read-plots}

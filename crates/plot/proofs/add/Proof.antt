@@ -2,11 +2,9 @@
 use Prim.Native.Nat.{_+_, _-_}
 use Rattle.plot.proofs.Lists.{part-size}
 use native.Mathlib.Omega.{arith}
-use mathlib.Core.Path.{_≡_, refl, sym, ap, _∙_}
-use lib.ListN.{length, take, drop}
-use borrow.Rule.Slice.PartMut.{mid-len}
-use Rattle.plot.specs.Layout.{Plot}
-use Rattle.plot.proofs.Entries.{Taken, taken, put-in, left-as-was, record-length}
+use mathlib.Core.Path.{_≡_, sym, _∙_}
+use lib.ListN.{length}
+use Rattle.plot.proofs.Entries.{Taken, taken, put-in, left-as-was}
 use borrow.Author.Needs.{needs}
 use Rattle.plot.proofs.add.Statement.{statement}
 use Rattle.plot.proofs.add.Tie as tie

@@ -1,7 +1,7 @@
 -- What is located lies within the payload; the part is taken there, or is empty.
 use Prim.Native.Nat.{_+_, _≤_}
 use native.Mathlib.Omega.{arith}
-use mathlib.Core.Path.{_≡_, sym, ap, _∙_}
+use mathlib.Core.Path.{sym, _∙_}
 use lib.ListN.{length}
 use Rattle.plot.proofs.Entries.{located-within, part-found, part-refused}
 use borrow.Author.Needs.{needs}

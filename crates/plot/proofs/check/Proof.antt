@@ -1,17 +1,14 @@
 -- The payload check. Outer invariant: the whole reading is the reading from the cursor on. Inner invariant: the lines of the record hold where
 -- those from line `i` on do. Measures: the bytes and the lines left.
-use Prim.Native.Nat.{ℕ, _+_, _*_, _-_, _≤_, _<_}
+use Prim.Native.Nat.{ℕ, _+_, _*_, _-_, _≤_}
 use native.Mathlib.Omega.{arith}
-use native.Mathlib.Nat.{sub-zero, add-zero}
-use mathlib.Core.Path.{_≡_, refl, sym, ap, _∙_}
-use mathlib.Core.Bool.{true, false}
+use mathlib.Core.Path.{_≡_, sym, ap, _∙_}
 use lib.ListN.{length, drop, length-drop}
 use borrow.Author.Needs.{needs}
-use borrow.Author.Tests.{lt-ltb, le-ltb, not-true, not-false}
-use Rattle.plot.specs.declared.Refusal.the-variants.{WrongLength, BadMark, CutShort, BadTally, PlotOrder}
-use Rattle.plot.specs.declared.Step.the-variants.{Record, End, Refused}
-use Rattle.plot.specs.Layout.{noLine, linesHold, lineOf, lineHolds}
-use Rattle.plot.specs.Grammar.{stepAt, Plots, Stopped, readFrom, reading}
+use borrow.Author.Tests.{not-true, not-false}
+use Rattle.plot.specs.declared.Step.the-variants.{Record}
+use Rattle.plot.specs.Layout.{noLine, linesHold}
+use Rattle.plot.specs.Grammar.{stepAt, readFrom, reading}
 use Rattle.plot.specs.Answers.{checkedOf}
 use Rattle.plot.proofs.Cases.{read-end, read-refused, lines-end, lines-not, lines-on, Bounds, bounds, turn-lines, turn-order, turn-on, checked-onto, checked-stopped, checked-plots, reading-long, reading-short, first-lines}
 use Rattle.plot.proofs.check.Statement.{statement}

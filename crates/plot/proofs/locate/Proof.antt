@@ -1,5 +1,5 @@
 -- After the payload's own check: the search in its plots, or its refusal.
-use mathlib.Core.Path.{_≡_, sym, _∙_}
+use mathlib.Core.Path.{sym, _∙_}
 use Rattle.plot.proofs.Entries.{checked-accepted, checked-refused, located-stopped}
 use borrow.Author.Needs.{needs}
 use Rattle.plot.proofs.locate.Statement.{statement}

@@ -1,6 +1,5 @@
 -- The payload's own refusal, or the checks of the plot at the end of its records.
-use native.Mathlib.Omega.{arith}
-use mathlib.Core.Path.{_≡_, sym, _∙_}
+use mathlib.Core.Path.{sym, _∙_}
 use Rattle.plot.proofs.Entries.{checked-accepted, checked-refused, added-plots, added-stopped, end-within}
 use borrow.Author.Needs.{needs}
 use Rattle.plot.proofs.place_for.Statement.{statement}

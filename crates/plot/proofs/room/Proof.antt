@@ -1,6 +1,6 @@
 -- The checks of an added plot in their order: each return is a case of `addedAt`.
 use native.Mathlib.Omega.{arith}
-use mathlib.Core.Path.{_≡_, sym, _∙_}
+use mathlib.Core.Path.{sym, _∙_}
 use borrow.Author.Tests.{not-true, not-false}
 use Rattle.plot.proofs.Entries.{add-long, add-odd, add-zero-plot, add-lines, add-order, add-full, add-here}
 use borrow.Author.Needs.{needs}

@@ -1,8 +1,8 @@
 -- The plots from the cursor on are searched; the measure is the bytes left. No step of an accepted payload is a refusal.
 use Rattle.plot.proofs.Entries.{no-plots}
-use Prim.Native.Nat.{ℕ, _+_, _-_, _≤_, _<_}
+use Prim.Native.Nat.{ℕ, _+_, _-_, _≤_}
 use native.Mathlib.Omega.{arith}
-use mathlib.Core.Path.{_≡_, refl, sym, ap, _∙_}
+use mathlib.Core.Path.{_≡_, sym, _∙_}
 use mathlib.Core.List.{List}
 use lib.ListN.{length, drop, length-drop}
 use borrow.Author.Needs.{needs}

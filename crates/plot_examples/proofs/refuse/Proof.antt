@@ -1,7 +1,6 @@
 -- No more bytes are printed than the buffer has.
 use native.Mathlib.Omega.{arith}
-use mathlib.Core.Path.{_≡_, sym}
-use lib.ListN.{length}
+use mathlib.Core.Path.{sym}
 use lib.Seq.{length-take-le}
 use borrow.Author.Needs.{needs}
 use Rattle.plot_examples.proofs.refuse.Statement.{statement}

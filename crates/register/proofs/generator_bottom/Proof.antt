@@ -1,6 +1,5 @@
 -- The generator on top moved down to the lowest cells, without its lowest, and divided by it.
-use mathlib.Core.Path.{_≡_, ap, _∙_}
-use Prim.Native.Nat.{ℕ, min}
+use Prim.Native.Nat.{min}
 use native.Mathlib.Omega.{arith}
 use Rattle.register.specs.Words.{cells}
 use Rattle.register.proofs.Cells.{cells-length}

@@ -1,7 +1,6 @@
 -- `vectors::cells` meets its contract: each turn reads at an index below the length. The measure is what is left of the length.
 use borrow.Author.Needs.{needs}
 use Prim.Native.Nat.{_≤_, _-_}
-use native.Mathlib.Omega.{arith}
 use lib.ListN.{length}
 use Rattle.vectors.proofs.cells.Statement.{statement}
 use Rattle.vectors.proofs.cells.Tie as tie

@@ -1,6 +1,6 @@
 -- Past the end and at a zero byte the rest decides; else the checks of `head` on the bytes from the place on.
 use Rattle.plot.specs.Grammar.{headAt, allZero}
-use mathlib.Core.Path.{_≡_, sym, ap, _∙_}
+use mathlib.Core.Path.{sym, ap, _∙_}
 use Rattle.plot.proofs.Cases.{step-past, step-head, step-end, step-tail}
 use Rattle.plot.proofs.Lists.{tail-part}
 use borrow.Author.Needs.{needs}

@@ -1,7 +1,6 @@
 -- Five stores into five cells.
 use native.Mathlib.Omega.{arith}
-use mathlib.Core.Path.{_≡_}
-use lib.ListN.{length, set, length-set}
+use lib.ListN.{length-set}
 use Rattle.plot.proofs.Lists.{five}
 use borrow.Author.Needs.{needs}
 use Rattle.plot.proofs.record.put_header.Statement.{statement}

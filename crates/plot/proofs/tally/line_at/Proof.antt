@@ -1,5 +1,4 @@
 -- The three bytes at `at` are the first three from `at` on.
-use Prim.Native.Nat.{_+_}
 use native.Mathlib.Nat.{add-zero}
 use lib.Seq.{getD-drop}
 use borrow.Author.Needs.{needs}

@@ -1,5 +1,5 @@
 -- The checks of a line in their order: each return is a case of `lineHolds`.
-use mathlib.Core.Path.{_≡_, sym, _∙_}
+use mathlib.Core.Path.{sym, _∙_}
 use borrow.Author.Tests.{not-true, not-false}
 use Rattle.plot.proofs.Cases.{line-species, line-class, line-count, line-rise}
 use borrow.Author.Needs.{needs}

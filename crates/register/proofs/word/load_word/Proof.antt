@@ -3,7 +3,7 @@ use mathlib.Core.Path.{_≡_, sym, ap, _∙_}
 use mathlib.Core.List.{List}
 use Prim.Native.Nat.{ℕ, _+_, _-_, _≤_, min}
 use native.Mathlib.Omega.{arith}
-use lib.ListN.{length, getD, take, drop}
+use lib.ListN.{length, take, drop}
 use Rattle.register.specs.Words.{bytesFrom}
 use Rattle.register.specs.Register.{shiftUp, padTo}
 use Rattle.register.proofs.Moves.{load-none, load-more, load-all, no-cells}
