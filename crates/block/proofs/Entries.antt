@@ -100,10 +100,10 @@ module _ (p : Profile) (v : InRange p) where
   rem-short : (y : List ℕ) → length (remainder (p .r) (generator (p .b) (p .r)) y) ≤ 64
   rem-short y = omega (arith, remainder-length (p .r) (p .b) y, v .r-most)
 
-  -- the register's extent tells a clean block
-  pub extent-clean : (y Z : List ℕ) (e : ℕ) → Z ≡ padTo 64 (remainder (p .r) (generator (p .b) (p .r)) y) → e ≡ extent Z → eqb e 0 ≡ isClean (p .b) (p .r) y
+  -- a block is clean exactly if the register of its remainder is zero
+  pub zero-clean : (y Z : List ℕ) (t : Bool) → Z ≡ padTo 64 (remainder (p .r) (generator (p .b) (p .r)) y) → t ≡ eqb (extent Z) 0 → t ≡ isClean (p .b) (p .r) y
   unfolding isClean
-  extent-clean y Z e eZ q = ap (λ (k : ℕ). eqb k 0) (q ∙ ap extent eZ ∙ extent-pad 64 (remainder (p .r) (generator (p .b) (p .r)) y) (rem-short y))
+  zero-clean y Z t eZ q = q ∙ ap (λ (k : ℕ). eqb k 0) (ap extent eZ ∙ extent-pad 64 (remainder (p .r) (generator (p .b) (p .r)) y) (rem-short y))
 
   -- the written block is the check cells and the message
   pub encode-law : (m C : List ℕ) → C ≡ padTo 64 (checkCells (p .b) (p .r) m) → take (p .r) C ++ m ≡ encode (p .b) (p .r) m

@@ -242,7 +242,7 @@ pub fn check(p: Profile, read: &[u8]) -> Checked
     if read.len() != p.n {
         return Checked::WrongLength;
     }
-    if register::extent(remainder_of(p, generator_of(p), read)) == 0 {
+    if register::is_zero(remainder_of(p, generator_of(p), read)) {
         return Checked::Clean;
     }
     Checked::NotClean
@@ -365,7 +365,7 @@ pub fn correct(p: Profile, read: &[u8], out: &mut [u8]) -> Verdict
     }
     let g = generator_of(p);
     let rest = remainder_of(p, g, read);
-    if register::extent(rest) == 0 {
+    if register::is_zero(rest) {
         bytes::copy(read, out);
         return Verdict::Corrected {
             start: 0,

@@ -145,13 +145,6 @@ mul-eq-zero a b ha na hb e = sym (inverse-cancel a b ha na hb) ∙ ap (mul (inve
 pub mul-ne-zero : (a b : ℕ) → a < 256 → a ≢ 0 → b < 256 → b ≢ 0 → mul a b ≢ 0
 mul-ne-zero a b ha na hb nb e = nb (mul-eq-zero a b ha na hb e)
 
--- an inverse is the only one
-pub inverse-unique : (a b : ℕ) → a < 256 → b < 256 → mul a b ≡ 1 → b ≡ inverse a
-inverse-unique a b ha hb e = mul-cancel a b (inverse a) ha na hb (inverse-lt a) (e ∙ sym (mul-inverse a ha na))
-  where
-    na : a ≢ 0
-    na z = let o : _≡_ {A = ℕ} 0 1 = sym (zero-mul b) ∙ ap (λ (x : ℕ). mul x b) (sym z) ∙ e in omega arith
-
 pub power-ne-zero : (a n : ℕ) → a < 256 → a ≢ 0 → power a n ≢ 0
 unfolding power
 power-ne-zero a zero ha na = omega arith
@@ -233,6 +226,3 @@ alpha-mod i =
   where
     whole : 255 * (i / 255) + i % 255 ≡ i
     whole = omega arith
-
-pub alpha-period : (i : ℕ) → alpha (255 + i) ≡ alpha i
-alpha-period i = power-add 2 255 i ∙ ap (λ (x : ℕ). mul x (alpha i)) alpha-255 ∙ one-mul (alpha i) (power-lt 2 i)

@@ -140,10 +140,6 @@ pub part-refused : (l : Located) (s : List ℕ) (r : Refusal) → l ≡ located-
 unfolding partOf
 part-refused l s r e = rw e
 
--- the length of a record
-pub record-length : (p : Plot) → length (recordOf p) ≡ 5 + length (p .lines)
-record-length p = omega arith
-
 -- where a plot may be added: the checks in turn
 module _ (size end last : ℕ) (p : Plot) where
   pub add-long : 120 < length (p .lines) → added-as.Refused (BadTally end) ≡ addedAt size end last p

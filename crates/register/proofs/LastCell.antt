@@ -148,6 +148,3 @@ extent-words (v ∷ ws) w zs p h z =
 -- no word above the lowest
 pub extent-lowest : (w : ℕ) (zs : List ℕ) → Zeros zs → extent (unpack (w ∷ zs)) ≡ extent (bytesFrom 8 0 w)
 extent-lowest w zs z = extent-low (bytesFrom 8 0 w) (unpack zs) (zero-words zs z)
-
-pub word-extent-le : (w : ℕ) → w < 2 ^ 64 → extent (bytesFrom 8 0 w) ≤ 8
-word-extent-le w h = omega (arith, word-extent-law w h)

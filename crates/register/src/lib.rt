@@ -221,13 +221,6 @@ pub fn load(s: &[u8]) -> Register
     }
 }
 
-/// The register with the given cells.
-pub fn from_cells(s: [u8; 64]) -> Register
-    ensures { λ r. ⌜ cells r ≡ s ⌝ }
-{
-    load(&s)
-}
-
 /// The cells of a register.
 pub fn low_cells(x: Register) -> [u8; 64]
     ensures { λ r. ⌜ r ≡ cells x ⌝ }

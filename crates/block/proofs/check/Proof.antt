@@ -1,11 +1,11 @@
 -- `block::check` meets its contract: the register of the remainder is zero exactly if the remainder is.
 use borrow.Author.Needs.{needs}
-use borrow.Author.Tests.{not-true, not-false, eq-eqb, ne-eqb}
+use borrow.Author.Tests.{not-true, not-false}
 use mathlib.Core.Path.{_≡_, sym, _∙_}
 use mathlib.Core.Bool.{true, false}
 use Rattle.block.specs.Profile.{inRange}
 use Rattle.block.proofs.Ranges.{in-range}
-use Rattle.block.proofs.Entries.{extent-clean, check-one, check-two, check-rest}
+use Rattle.block.proofs.Entries.{zero-clean, check-one, check-two, check-rest}
 use Rattle.block.proofs.check.Statement.{statement}
 use Rattle.block.proofs.check.Tie as tie
 
@@ -27,20 +27,20 @@ generator-of-requires c κs = in-range _ .0 (valid c)
 remainder-of-requires : tie.Need-remainder-of-requires
 remainder-of-requires c κs = (in-range _ .0 (valid (c .before)), (c .generator-of .ensures, c .before .if2 .left))
 
-extent-requires : tie.Need-extent-requires
-extent-requires c κs = search needs
+is-zero-requires : tie.Need-is-zero-requires
+is-zero-requires c κs = search needs
 
 returns-3 : tie.Need-returns-3
 returns-3 c =
     let v = valid (c .before .before .before .before) in
     check-rest _ _ v (c .before .before .before .before .if2 .left) true
-    (sym (extent-clean _ (in-range _ .0 v) _ _ _ (c .before .before .remainder-of .ensures) (c .before .extent .ensures)) ∙ eq-eqb _ 0 (c .if3 .taken))
+    (sym (zero-clean _ (in-range _ .0 v) _ _ _ (c .before .before .remainder-of .ensures) (c .before .is-zero .ensures)) ∙ c .if3 .taken)
 
 returns-4 : tie.Need-returns-4
 returns-4 c =
     let v = valid (c .before .before .before .before) in
     check-rest _ _ v (c .before .before .before .before .if2 .left) false
-    (sym (extent-clean _ (in-range _ .0 v) _ _ _ (c .before .before .remainder-of .ensures) (c .before .extent .ensures)) ∙ ne-eqb _ 0 (c .if3 .left))
+    (sym (zero-clean _ (in-range _ .0 v) _ _ _ (c .before .before .remainder-of .ensures) (c .before .is-zero .ensures)) ∙ c .if3 .left)
 
 pub check-spec : {M : Type 1} → statement M
 check-spec =
@@ -51,6 +51,6 @@ check-spec =
     returns-2
     generator-of-requires
     remainder-of-requires
-    extent-requires
+    is-zero-requires
     returns-3
     returns-4)

@@ -1,6 +1,6 @@
--- `block::correct` meets its contract: each return is a case of the definitions; a clean block is told by its register's extent.
+-- `block::correct` meets its contract: each return is a case of the definitions; a clean block is told by its register.
 use borrow.Author.Needs.{needs}
-use borrow.Author.Tests.{not-true, not-false, eq-eqb, ne-eqb}
+use borrow.Author.Tests.{not-true, not-false}
 use Prim.Native.Nat.{ℕ}
 use native.Mathlib.Omega.{arith}
 use mathlib.Core.Path.{_≡_, sym, _∙_}
@@ -11,7 +11,7 @@ use Rattle.block.specs.Profile.{inRange}
 use Rattle.block.specs.Block.{correctFits}
 use Rattle.block.specs.Promises.{Cells}
 use Rattle.block.proofs.Ranges.{in-range}
-use Rattle.block.proofs.Entries.{extent-clean, correct-one, correct-two, correct-rest, correct-fits, read-wrong, out-wrong}
+use Rattle.block.proofs.Entries.{zero-clean, correct-one, correct-two, correct-rest, correct-fits, read-wrong, out-wrong}
 use Rattle.block.proofs.Outcome.{outcome-clean}
 use Rattle.block.proofs.correct.Statement.{statement}
 use Rattle.block.proofs.correct.Tie as tie
@@ -42,8 +42,8 @@ generator-of-requires c κs = in-range _ .0 (valid c)
 remainder-of-requires : tie.Need-remainder-of-requires
 remainder-of-requires c κs = (in-range _ .0 (valid (c .before)), (c .generator-of .ensures, c .before .before .before .if2 .left))
 
-extent-requires : tie.Need-extent-requires
-extent-requires c κs = search needs
+is-zero-requires : tie.Need-is-zero-requires
+is-zero-requires c κs = search needs
 
 copy-requires : tie.Need-copy-requires
 copy-requires c κs = search needs
@@ -58,7 +58,7 @@ returns-4 c =
     let y : List ℕ = s .args .read .now in
     let v = in-range _ .0 (valid e) in
     let h : Cells (s .args .p) y = record { count = e .before .before .if2 .left; bytes = bytes-of y (λ i. omega (arith, e .before .before .before .before .before .before .before .shared-slice-known .given i)) } in
-    let t = sym (extent-clean _ v y _ _ (c .before .before .before .before .before .before .remainder-of .ensures) (c .before .before .before .before .before .extent .ensures)) ∙ eq-eqb _ 0 (c .before .before .before .before .if4 .taken) in
+    let t = sym (zero-clean _ v y _ _ (c .before .before .before .before .before .before .remainder-of .ensures) (c .before .before .before .before .before .is-zero .ensures)) ∙ c .before .before .before .before .if4 .taken in
     let o = outcome-clean (s .args .p) y (s .args .out .now) _ v h t (e .if3 .left ∙ sym (e .before .before .if2 .left)) (c .before .before .copy .ensures .1) in
     correct-rest _ _ _ (valid e) (fitting e) _ _ (o .0) (o .1)
 
@@ -73,7 +73,7 @@ correct-errors-requires c κs =
           (e .before .before .if2 .left, e .if3 .left),
           (
             c .before .before .before .remainder-of .ensures,
-            sym (extent-clean _ v _ _ _ (c .before .before .before .remainder-of .ensures) (c .before .before .extent .ensures)) ∙ ne-eqb _ 0 (c .before .if4 .left),
+            sym (zero-clean _ v _ _ _ (c .before .before .before .remainder-of .ensures) (c .before .before .is-zero .ensures)) ∙ c .before .if4 .left,
           ),
         ),
       ),
@@ -97,7 +97,7 @@ correct-spec =
     returns-3
     generator-of-requires
     remainder-of-requires
-    extent-requires
+    is-zero-requires
     copy-requires
     same-length
     returns-4
