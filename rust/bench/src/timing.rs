@@ -1,6 +1,6 @@
 //! Times of the coders on one shape, taken in turn: in each round every coder works the same number of times, so that what disturbs the
-//! machine meets all alike. A time is the median over the rounds. Calls take many different blocks in turn: a processor learns the
-//! branches that a coder takes on one block by heart.
+//! machine meets all alike. A time is the median over the rounds. Calls take many different blocks in turn, as an archive has them: a coder
+//! may be faster on a block that comes again.
 
 use std::hint::black_box;
 use std::time::Instant;
