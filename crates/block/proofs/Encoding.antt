@@ -9,9 +9,11 @@ use lib.ListN.{length, getD, drop, replicate, length-append}
 use lib.Seq.{drop-at, getD-drop}
 use Rattle.field.specs.Field.{add, mul, power, alpha}
 use Rattle.field.proofs.Sum.{add-self}
-use Rattle.code.specs.Poly.{Bytes, eval}
+use Rattle.lists.specs.Bytes.{Bytes}
+use Rattle.code.specs.Poly.{eval}
 use Rattle.code.specs.Code.{Codeword, syndrome}
-use Rattle.code.proofs.Poly.{append-bytes, zeros-bytes, eval-append, eval-zeros}
+use Rattle.lists.proofs.Bytes.{append-bytes, zeros-bytes}
+use Rattle.code.proofs.Poly.{eval-append, eval-zeros}
 use Rattle.code.proofs.Division.{remainder-length, remainder-bytes, remainder-syndrome, syndromes-codeword}
 use Rattle.code.proofs.Shifted.{distance-run}
 use Rattle.code.proofs.Theorems.{minimum-distance}

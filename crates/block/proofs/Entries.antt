@@ -10,11 +10,13 @@ use lib.ListN.{length, getD, take, drop, replicate, take-append-drop, length-dro
 use lib.Seq.{length-take-le, take-all, take-at, getD-append-add}
 use borrow.Author.Tests.{eq-eqb, ne-eqb}
 use Rattle.lists.specs.Choice.{pick, both}
-use Rattle.code.specs.Poly.{Bytes, padd}
+use Rattle.lists.specs.Bytes.{Bytes}
+use Rattle.code.specs.Poly.{padd}
 use Rattle.code.specs.Code.{generator, remainder}
 use Rattle.code.specs.Run.{ZeroFrom}
 use Rattle.code.specs.Search.{extent}
-use Rattle.code.proofs.Poly.{getD-zeros, take-bytes, drop-bytes}
+use Rattle.lists.proofs.Bytes.{take-bytes, drop-bytes}
+use Rattle.code.proofs.Poly.{getD-zeros}
 use Rattle.code.proofs.Division.{remainder-length}
 use Rattle.register.specs.Register.{padTo, onTop, feeds, monicOf, backGenerator}
 use Rattle.register.proofs.Align.{pad-sum, drop-top, pad-is}

@@ -68,7 +68,7 @@ module _ (p : Profile) (y : List ℕ) (v : InRange p) (h : Cells p y) where
   scan = scan-all e (p .n) (p .limit) (p .n)
 
   exact : (s f : ℕ) (c : List ℕ) → f < p .r → s + f ≤ p .n → Reached p y s f c ↔ (ZeroFrom f (R s) × (c ≡ word s f))
-  exact s f c lf run = run-reaches (p .n) (p .r) (p .b) y s f c (v .r-below) (v .n-most) (h .count) (h .bytes) lf run
+  exact s f c lf run = run-reaches (p .n) (p .r) (p .b) y s f c (v .r-below) (v .n-most) (h .count) (h .bytes) (omega arith) run
 
   pub reach-extent : (s f : ℕ) (c : List ℕ) → f < p .r → Reached p y s f c → e s ≤ f
   reach-extent s f c l k = rw (e-is s) (extent-least (R s) f (exact s f c l (k .run) .0 k .0))

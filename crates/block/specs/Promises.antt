@@ -6,7 +6,7 @@ use mathlib.Core.Bool.{true}
 use mathlib.Core.List.{List}
 use Prim.Native.Nat.{ℕ, _≤_, _<_}
 use lib.ListN.{length, drop}
-use Rattle.code.specs.Poly.{Bytes}
+use Rattle.lists.specs.Bytes.{Bytes}
 use Rattle.code.specs.Code.{Codeword, syndrome}
 use Rattle.code.specs.Run.{Reaches}
 use Rattle.block.specs.Profile.{InRange, messageLength, half}

@@ -16,7 +16,8 @@ use Rattle.field.specs.Field.{add, mul, power, alpha}
 use Rattle.field.proofs.Sum.{add-self, add-eq, add-lt}
 use Rattle.field.proofs.Product.{mul-lt, mul-comm, zero-mul, one-mul, mul-one, ring}
 use Rattle.field.proofs.Power.{power-lt, alpha-ne-zero, alpha-ne-one, mul-eq-zero}
-use Rattle.code.specs.Poly.{Bytes, eval, padd}
+use Rattle.lists.specs.Bytes.{Bytes}
+use Rattle.code.specs.Poly.{eval, padd}
 use Rattle.code.specs.Code.{syndrome, distance}
 use Rattle.code.proofs.Poly.{eval-lt, eval-cons-zero, eval-padd, padd-length, padd-bytes, equal-of-zero}
 

@@ -12,10 +12,12 @@ use Rattle.lists.proofs.Test.{lt-or-ge}
 use Rattle.field.specs.Field.{add, mul, alpha}
 use Rattle.field.proofs.Sum.{add-self, add-zero-l, add-zero-r}
 use Rattle.field.proofs.Product.{mul-zero, zero-mul, mul-one, ring}
-use Rattle.code.specs.Poly.{Bytes, eval, padd, pscale, pmul}
+use Rattle.lists.specs.Bytes.{Bytes}
+use Rattle.code.specs.Poly.{eval, padd, pscale, pmul}
 use Rattle.code.specs.Code.{generator, syndrome, Codeword, remStep, remainder}
 use Rattle.code.specs.Theorems.{Syndromes-zero}
-use Rattle.code.proofs.Poly.{getD-padd, getD-pscale, getD-zeros, getD-byte, padd-length, padd-bytes, pscale-length, pscale-bytes, take-bytes, zeros-bytes, pmul-length, eval-padd, eval-pscale, eval-pmul, eval-same}
+use Rattle.lists.proofs.Bytes.{getD-byte, take-bytes, zeros-bytes}
+use Rattle.code.proofs.Poly.{getD-padd, getD-pscale, getD-zeros, padd-length, padd-bytes, pscale-length, pscale-bytes, pmul-length, eval-padd, eval-pscale, eval-pmul, eval-same}
 use Rattle.code.proofs.Generator.{generator-length, generator-monic, generator-root}
 use Rattle.code.proofs.Distance.{Zero, zero-at, few-cells, weight-le}
 

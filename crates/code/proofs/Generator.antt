@@ -11,9 +11,11 @@ use Rattle.field.specs.Field.{add, mul, alpha}
 use Rattle.field.proofs.Sum.{add-self, add-zero-l, add-zero-r}
 use Rattle.field.proofs.Product.{mul-zero, zero-mul, add-mul}
 use Rattle.field.proofs.Power.{power-lt, alpha-ne-zero, mul-ne-zero}
-use Rattle.code.specs.Poly.{Bytes, eval, padd, pscale, pmul}
+use Rattle.lists.specs.Bytes.{Bytes}
+use Rattle.code.specs.Poly.{eval, padd, pscale, pmul}
 use Rattle.code.specs.Code.{generator}
-use Rattle.code.proofs.Poly.{getD-padd, getD-pscale, getD-byte, padd-zeros, pscale-one, pmul-bytes, pmul-length, eval-padd, eval-pscale, eval-cons-zero}
+use Rattle.lists.proofs.Bytes.{getD-byte}
+use Rattle.code.proofs.Poly.{getD-padd, getD-pscale, padd-zeros, pscale-one, pmul-bytes, pmul-length, eval-padd, eval-pscale, eval-cons-zero}
 
 pub generator-bytes : (b r : ℕ) → Bytes (generator b r)
 unfolding generator

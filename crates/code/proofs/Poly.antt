@@ -10,7 +10,8 @@ use lib.Seq.{ext-getD}
 use Rattle.field.specs.Field.{add, mul, power}
 use Rattle.field.proofs.Sum.{add-assoc, add-comm, add-eq, add-zero-l, add-zero-r, add-lt}
 use Rattle.field.proofs.Product.{mul-lt, add-mul, mul-assoc, mul-zero, zero-mul, one-mul, ring}
-use Rattle.code.specs.Poly.{Bytes, eval, padd, pscale, pmul}
+use Rattle.lists.specs.Bytes.{Bytes}
+use Rattle.code.specs.Poly.{eval, padd, pscale, pmul}
 use Rattle.code.specs.Run.{tail}
 
 -- ---- cells
@@ -32,16 +33,6 @@ pub getD-zeros : (n k : ℕ) → _≡_ {A = ℕ} (getD (replicate n 0) k 0) 0
 getD-zeros zero k = refl
 getD-zeros (suc n) zero = refl
 getD-zeros (suc n) (suc k) = getD-zeros n k
-
-pub getD-byte : (p : List ℕ) (k : ℕ) → Bytes p → getD p k 0 < 256
-getD-byte [] k h = omega arith
-getD-byte (x ∷ p) zero h = h .0
-getD-byte (x ∷ p) (suc k) h = getD-byte p k (h .1)
-
--- cells that are bytes, one by one
-pub bytes-of : (p : List ℕ) → ((i : ℕ) → getD p i 0 < 256) → Bytes p
-bytes-of [] h = tt
-bytes-of (x ∷ p) h = (h 0, bytes-of p (λ i. h (suc i)))
 
 -- ---- lengths
 
@@ -74,27 +65,9 @@ unfolding pscale
 pscale-bytes a [] = tt
 pscale-bytes a (x ∷ p) = (mul-lt a x, pscale-bytes a p)
 
-pub take-bytes : (n : ℕ) (p : List ℕ) → Bytes p → Bytes (take n p)
-take-bytes zero p h = tt
-take-bytes (suc n) [] h = tt
-take-bytes (suc n) (x ∷ p) h = (h .0, take-bytes n p (h .1))
-
-pub drop-bytes : (n : ℕ) (p : List ℕ) → Bytes p → Bytes (drop n p)
-drop-bytes zero p h = h
-drop-bytes (suc n) [] h = tt
-drop-bytes (suc n) (x ∷ p) h = drop-bytes n p (h .1)
-
 pub tail-bytes : (p : List ℕ) → Bytes p → Bytes (tail p)
 tail-bytes [] h = tt
 tail-bytes (x ∷ p) h = h .1
-
-pub zeros-bytes : (n : ℕ) → Bytes (replicate n 0)
-zeros-bytes zero = tt
-zeros-bytes (suc n) = (omega arith, zeros-bytes n)
-
-pub append-bytes : (p q : List ℕ) → Bytes p → Bytes q → Bytes (p ++ q)
-append-bytes [] q hp hq = hq
-append-bytes (x ∷ p) q hp hq = (hp .0, append-bytes p q (hp .1) hq)
 
 pub pmul-bytes : (p q : List ℕ) → Bytes (pmul p q)
 unfolding pmul

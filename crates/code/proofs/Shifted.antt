@@ -1,5 +1,5 @@
--- What a run reaches. The shifted remainder R by s has y's syndromes, each divided by its power of α; an error within a run of fewer
--- than r cells from s, moved down to cell 0, has the same syndromes as R and at most r cells, so by distance it is R.
+-- What a run reaches. The shifted remainder R by s has y's syndromes, each divided by its power of α; an error within a run of at most
+-- r cells from s, moved down to cell 0, has the same syndromes as R and at most r cells, so by distance it is R.
 use mathlib.Core.Path.{_≡_, refl, sym, ap, ap₂, _∙_, subst}
 use mathlib.Core.Logic.{_≢_, _⊎_, inl, inr, ⊎-elim}
 use mathlib.Core.Bool.{Bool, true, false}
@@ -17,10 +17,12 @@ use Rattle.field.specs.Field.{add, mul, power, alpha, inverse}
 use Rattle.field.proofs.Sum.{add-self, add-zero-l, add-zero-r, add-cancel}
 use Rattle.field.proofs.Product.{mul-assoc, mul-comm, mul-left-comm, mul-zero, one-mul, mul-one}
 use Rattle.field.proofs.Power.{power-lt, power-ne-zero, alpha-ne-zero, mul-inverse, mul-cancel}
-use Rattle.code.specs.Poly.{Bytes, eval, padd, pscale}
+use Rattle.lists.specs.Bytes.{Bytes}
+use Rattle.code.specs.Poly.{eval, padd, pscale}
 use Rattle.code.specs.Code.{generator, syndrome, remainder, distance}
 use Rattle.code.specs.Run.{Outside, Reaches, tail, backStep, backSteps, shiftedRemainder, ZeroFrom, addedAt}
-use Rattle.code.proofs.Poly.{getD-padd, getD-pscale, getD-zeros, getD-byte, padd-length, padd-length-r, padd-bytes, pscale-length, pscale-bytes, take-bytes, drop-bytes, tail-length, tail-bytes, zeros-bytes, append-bytes, eval-lt, eval-padd, eval-pscale, eval-zeros, eval-same, eval-head}
+use Rattle.lists.proofs.Bytes.{getD-byte, take-bytes, drop-bytes, zeros-bytes, append-bytes}
+use Rattle.code.proofs.Poly.{getD-padd, getD-pscale, getD-zeros, padd-length, padd-length-r, padd-bytes, pscale-length, pscale-bytes, tail-length, tail-bytes, eval-lt, eval-padd, eval-pscale, eval-zeros, eval-same, eval-head}
 use Rattle.code.proofs.Generator.{generator-bytes, generator-length, generator-low, generator-root}
 use Rattle.code.proofs.Distance.{determined, distance-le}
 use Rattle.code.proofs.Division.{remainder-length, remainder-bytes, remainder-syndrome, codeword-syndromes, syndromes-codeword}
@@ -123,7 +125,7 @@ added-bytes s e y he hy = padd-bytes y (replicate s 0 ++ e) hy (append-bytes (re
 
 -- ---- what a run reaches
 
-module _ (n r b : ℕ) (y : List ℕ) (s f : ℕ) (c : List ℕ) (hr : r < n) (hn : n ≤ 255) (ly : length y ≡ n) (hy : Bytes y) (hf : f < r) (run : s + f ≤ n) where
+module _ (n r b : ℕ) (y : List ℕ) (s f : ℕ) (c : List ℕ) (hr : r < n) (hn : n ≤ 255) (ly : length y ≡ n) (hy : Bytes y) (hf : f ≤ r) (run : s + f ≤ n) where
   abbrev R : List ℕ
   R = shiftedRemainder b r s y
 
@@ -243,6 +245,24 @@ module _ (n r b : ℕ) (y : List ℕ) (s f : ℕ) (c : List ℕ) (hr : r < n) (h
       agree = λ j m o.
           sym (ap (λ (p : List ℕ). getD p j 0) e ∙ added-cell s (take f R) y j ∙ ap (add (getD y j 0)) (outside-laid j o) ∙ add-zero-r (getD y j 0));
     }
+
+-- ---- long runs
+
+-- a longer run from the same start reaches what the shorter one reaches
+pub longer-run : (n r b : ℕ) (y : List ℕ) (s f g : ℕ) (c : List ℕ) → f ≤ g → s + g ≤ n → Reaches n r b y s f c → Reaches n r b y s g c
+longer-run n r b y s f g c l run h = record {
+  run = run;
+  codeword = h .codeword;
+  agree = λ i m o. h .agree i m (⊎-elim (λ k. inl k) (λ k. inr (omega arith)) o);
+}
+
+-- the shifted remainder has r cells, so the run of r cells reaches the read block plus all of it
+pub long-reached : (n r b : ℕ) (y : List ℕ) (s f : ℕ) → r < n → n ≤ 255 → length y ≡ n → Bytes y → r ≤ f → s + f ≤ n → (c : List ℕ) × Reaches n r b y s f c
+long-reached n r b y s f hr hn ly hy l run =
+    let R : List ℕ = shiftedRemainder b r s y in
+    let c : List ℕ = addedAt s (take r R) y in
+    let z : ZeroFrom r R = λ k m. List·getD-eq-default R 0 (omega (arith, shifted-length b r s y hy)) in
+    (c, longer-run n r b y s r f c l run (word-reached n r b y s r c hr hn ly hy (omega arith) (omega arith) z refl))
 
 -- ---- two runs
 

@@ -7,10 +7,10 @@ use Rattle.field.specs.Field.{mul, alpha}
 use Rattle.field.proofs.Power.{power-mul}
 use Rattle.code.specs.Code.{generator, syndrome}
 use Rattle.code.specs.Run.{shiftedRemainder}
-use Rattle.code.specs.Theorems.{CodewordIffSyndromes, Division, MinimumDistance, RemainderSyndromes, ShiftedSyndromes, RunReaches, TwoRuns}
+use Rattle.code.specs.Theorems.{CodewordIffSyndromes, Division, MinimumDistance, RemainderSyndromes, ShiftedSyndromes, RunReaches, LongRunReaches, TwoRuns}
 use Rattle.code.proofs.Distance.{determined}
 use Rattle.code.proofs.Division.{quotient, quotient-length, generator-divides, remainder-syndrome, codeword-syndromes, syndromes-codeword}
-use Rattle.code.proofs.Shifted.{shifted-syndrome, reached-zero, reached-word, word-reached, distance-run, distance-triangle}
+use Rattle.code.proofs.Shifted.{shifted-syndrome, reached-zero, reached-word, word-reached, long-reached, distance-run, distance-triangle}
 
 pub codeword-iff-syndromes : CodewordIffSyndromes
 codeword-iff-syndromes n r b c l hr e h = (codeword-syndromes n r b c, syndromes-codeword n r b c l hr e h)
@@ -36,6 +36,9 @@ run-reaches n r b y s f c hr hn ly hy hf run = (
   λ h. (reached-zero n r b y s f c hr hn ly hy hf run h, reached-word n r b y s f c hr hn ly hy hf run h),
   λ h. word-reached n r b y s f c hr hn ly hy hf run (h .0) (h .1),
 )
+
+pub long-run-reaches : LongRunReaches
+long-run-reaches = long-reached
 
 pub two-runs : TwoRuns
 two-runs n r b y s f t g c d hn ly hc hd w =

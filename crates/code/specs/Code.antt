@@ -7,7 +7,8 @@ use lib.Dec.{eqb}
 use lib.ListN.{length, getD, take, replicate}
 use Rattle.lists.specs.Choice.{pick}
 use Rattle.field.specs.Field.{alpha}
-use Rattle.code.specs.Poly.{Bytes, eval, padd, pscale, pmul}
+use Rattle.lists.specs.Bytes.{Bytes}
+use Rattle.code.specs.Poly.{eval, padd, pscale, pmul}
 
 -- "The generator is the product of (x−α^(b+i)) for i from 0 to r−1"; minus is plus here
 unfoldable pub generator : ℕ → ℕ → List ℕ

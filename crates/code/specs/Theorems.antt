@@ -1,12 +1,14 @@
 -- The theorems of the code, as statements for every b, every r ≥ 1 and every n ≤ 255 (r = 1 and n = 2 included). They are proved in
--- proofs/Theorems.antt. B5 is CodewordIffSyndromes, B11 is MinimumDistance; RunReaches and TwoRuns are what a block's verdict rests on.
+-- proofs/Theorems.antt. B5 is CodewordIffSyndromes, B11 is MinimumDistance; RunReaches and TwoRuns are what a block's verdict rests on, and
+-- LongRunReaches is why the limit stops at r − 1.
 use mathlib.Core.Path.{_≡_}
 use mathlib.Core.Logic.{_↔_}
 use mathlib.Core.List.{List}
 use Prim.Native.Nat.{ℕ, _+_, _*_, _-_, _≤_, _<_}
 use lib.ListN.{length, take}
 use Rattle.field.specs.Field.{mul, alpha}
-use Rattle.code.specs.Poly.{Bytes, padd, pmul}
+use Rattle.lists.specs.Bytes.{Bytes}
+use Rattle.code.specs.Poly.{padd, pmul}
 use Rattle.code.specs.Code.{generator, syndrome, Codeword, remainder, distance}
 use Rattle.code.specs.Run.{Reaches, shiftedRemainder, ZeroFrom, addedAt}
 
@@ -35,11 +37,15 @@ RemainderSyndromes = (r b i : ℕ) (c : List ℕ) → i < r → Bytes c → synd
 abbrev pub ShiftedSyndromes : Type 0
 ShiftedSyndromes = (r b i s : ℕ) (y : List ℕ) → i < r → Bytes y → syndrome b i y ≡ mul (alpha (s * (b + i))) (syndrome b i (shiftedRemainder b r s y))
 
--- a run shorter than r reaches a codeword exactly if the shifted remainder is zero from the run's length on; that codeword is the
+-- a run of at most r cells reaches a codeword exactly if the shifted remainder is zero from the run's length on; that codeword is the
 -- read block plus the shifted remainder laid at the run's start, and so the run reaches no other
 abbrev pub RunReaches : Type 0
-RunReaches = (n r b : ℕ) (y : List ℕ) (s f : ℕ) (c : List ℕ) → r < n → n ≤ 255 → length y ≡ n → Bytes y → f < r → s + f ≤ n
+RunReaches = (n r b : ℕ) (y : List ℕ) (s f : ℕ) (c : List ℕ) → r < n → n ≤ 255 → length y ≡ n → Bytes y → f ≤ r → s + f ≤ n
     → Reaches n r b y s f c ↔ (ZeroFrom f (shiftedRemainder b r s y) × (c ≡ addedAt s (take f (shiftedRemainder b r s y)) y))
+
+-- "Lengths of r and more reach a codeword always, so L stops at r−1": such a run reaches a codeword from every start that leaves room for it
+abbrev pub LongRunReaches : Type 0
+LongRunReaches = (n r b : ℕ) (y : List ℕ) (s f : ℕ) → r < n → n ≤ 255 → length y ≡ n → Bytes y → r ≤ f → s + f ≤ n → (c : List ℕ) × Reaches n r b y s f c
 
 -- two codewords within two runs of one block that are together at most r cells long are one
 abbrev pub TwoRuns : Type 0

@@ -9,8 +9,8 @@ use lib.Dec.{ltb, eqb}
 use lib.ListN.{length, getD, take, drop, length-replicate}
 use borrow.Author.Tests.{eqb-true, eqb-false}
 use Rattle.lists.proofs.Test.{true-or-false, true-false, pick-of}
-use Rattle.code.specs.Poly.{Bytes}
-use Rattle.code.proofs.Poly.{getD-byte, bytes-of, drop-bytes}
+use Rattle.lists.specs.Bytes.{Bytes}
+use Rattle.lists.proofs.Bytes.{getD-byte, bytes-of, drop-bytes}
 use Rattle.block.specs.Profile.{InRange, inRange, messageLength}
 use Rattle.block.specs.declared.Profile.{Profile}
 use Rattle.block.proofs.Ranges.{in-range}

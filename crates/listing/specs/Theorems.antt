@@ -4,7 +4,7 @@ use mathlib.Core.Path.{_≡_}
 use mathlib.Core.List.{List}
 use Prim.Native.Nat.{ℕ, _≤_}
 use lib.ListN.{length, take}
-use Rattle.code.specs.Poly.{Bytes}
+use Rattle.lists.specs.Bytes.{Bytes}
 use Rattle.listing_text.specs.Buffer.{textIn, textLength}
 pub use Rattle.listing_text.specs.Text.{longestText}
 use Rattle.listing.specs.Listing.{listed}

@@ -1,2 +1,3 @@
 pub mod Test
 pub mod Fill
+pub mod Bytes

@@ -12,7 +12,8 @@ use Rattle.lists.proofs.Test.{all, all-at, equal-below}
 use Rattle.field.specs.Field.{add, mul, mulBits, double}
 use Rattle.field.proofs.Sum.{Additive, agree-byte, bit-lt, add-low}
 use Rattle.field.proofs.Product.{mul-add, mul-zero, mul-one, mul-two, mul-lt, one-mul, mul-comm, mul-assoc, mul-left-comm}
-use Rattle.code.specs.Poly.{padd, pscale, Bytes}
+use Rattle.lists.specs.Bytes.{Bytes}
+use Rattle.code.specs.Poly.{padd, pscale}
 use Rattle.register.specs.Words.{byte, bytesFrom}
 use Rattle.register.specs.Doubles.{DoublesOf, bitsAt}
 use Rattle.register.specs.declared.word.Doubles.{Doubles}

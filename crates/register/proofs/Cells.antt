@@ -8,7 +8,8 @@ use lib.Bits.{bitXor}
 use lib.ListN.{length, getD, take}
 use Rattle.field.specs.Field.{add}
 use Rattle.field.proofs.Sum.{add-lt}
-use Rattle.code.specs.Poly.{padd, pscale, Bytes}
+use Rattle.lists.specs.Bytes.{Bytes}
+use Rattle.code.specs.Poly.{padd, pscale}
 use Rattle.register.specs.Words.{byte, bytesFrom, unpack, words, cells}
 use Rattle.register.specs.Register.{shiftUp, shiftDown}
 use Rattle.register.specs.declared.Register.{Register}

@@ -10,9 +10,11 @@ use lib.Seq.{length-take-le}
 use Rattle.field.specs.Field.{add, mul, power, alpha}
 use Rattle.field.proofs.Sum.{add-eq, add-zero-l, add-zero-r}
 use Rattle.field.proofs.Product.{mul-left-comm, mul-zero, one-mul, mul-one, ring}
-use Rattle.code.specs.Poly.{Bytes, eval, padd, pscale}
+use Rattle.lists.specs.Bytes.{Bytes}
+use Rattle.code.specs.Poly.{eval, padd, pscale}
 use Rattle.code.specs.Code.{generator, remStep, remainder}
-use Rattle.code.proofs.Poly.{padd-assoc, padd-comm, padd-length, padd-bytes, padd-zeros, pscale-add, pscale-length, pscale-bytes, zeros-bytes, append-bytes, eval-padd, eval-pscale, eval-cons-zero, eval-append}
+use Rattle.lists.proofs.Bytes.{zeros-bytes, append-bytes}
+use Rattle.code.proofs.Poly.{padd-assoc, padd-comm, padd-length, padd-bytes, padd-zeros, pscale-add, pscale-length, pscale-bytes, eval-padd, eval-pscale, eval-cons-zero, eval-append}
 use Rattle.code.proofs.Generator.{generator-bytes, generator-length, generator-monic, generator-root}
 use Rattle.code.proofs.Distance.{determined, distance-le}
 use Rattle.code.proofs.Division.{step-length, step-bytes, eval-remStep, remainder-length, remainder-bytes, remainder-syndrome}

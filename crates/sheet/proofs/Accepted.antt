@@ -6,7 +6,7 @@ use native.Mathlib.Omega.{arith}
 use lib.ListN.{drop}
 use Rattle.lists.specs.Choice.{pick}
 use Rattle.lists.proofs.Test.{pick-of}
-use Rattle.code.proofs.Poly.{drop-bytes}
+use Rattle.lists.proofs.Bytes.{drop-bytes}
 use Rattle.block.specs.Profile.{InRange, messageLength}
 use Rattle.block.specs.declared.Profile.{Profile}
 use Rattle.sheet.specs.declared.Reading.the-variants.{Accepted}

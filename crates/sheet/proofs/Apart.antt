@@ -10,8 +10,8 @@ use native.Mathlib.Omega.{arith}
 use lib.ListN.{length, getD, set, drop, length-drop, drop-of-length-le}
 use borrow.Rule.Slice.PartMut.{putMid}
 use lib.Seq.{length-take-le, getD-take, getD-drop, ext-getD, getD-set-same, getD-set-other}
-use Rattle.code.specs.Poly.{Bytes}
-use Rattle.code.proofs.Poly.{getD-byte, take-bytes, drop-bytes}
+use Rattle.lists.specs.Bytes.{Bytes}
+use Rattle.lists.proofs.Bytes.{getD-byte, take-bytes, drop-bytes}
 use Rattle.sheet.specs.Sheet.{tab, interleave, blockOf, joined, messageOf}
 use Rattle.sheet.specs.Steps.{Laid, messageAt}
 use Rattle.sheet.specs.Theorems.{Places, TakenApart}

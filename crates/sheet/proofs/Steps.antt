@@ -11,7 +11,7 @@ use lib.ListN.{length, getD}
 use lib.Dec.{eqb}
 use borrow.Author.Tests.{eq-eqb, ne-eqb}
 use Rattle.lists.proofs.Test.{true-or-false, true-false}
-use Rattle.code.specs.Poly.{Bytes}
+use Rattle.lists.specs.Bytes.{Bytes}
 use Rattle.block.specs.Profile.{InRange, messageLength}
 use Rattle.block.specs.Block.{encode, verdict, correctAnswer, correctLeaves, verdictLength}
 use Rattle.block.specs.declared.Profile.{Profile}

@@ -10,7 +10,7 @@ use lib.ListN.{length, drop, replicate}
 use borrow.Author.Tests.{eq-eqb}
 use Rattle.lists.specs.Choice.{pick}
 use Rattle.lists.proofs.Test.{true-or-false}
-use Rattle.code.specs.Poly.{Bytes}
+use Rattle.lists.specs.Bytes.{Bytes}
 use Rattle.block.specs.Profile.{InRange, messageLength}
 use Rattle.block.specs.Block.{refusing, verdictNumber, writtenNumber}
 use Rattle.block.specs.Promises.{Cells, Word, WrittenBlock}

@@ -4,7 +4,7 @@ use mathlib.Core.List.{List}
 use Prim.Native.Nat.{ℕ, zero, suc, _+_, _*_}
 use lib.ListN.{length}
 use Rattle.lists.specs.Choice.{pick}
-use Rattle.code.specs.Poly.{Bytes}
+use Rattle.lists.specs.Bytes.{Bytes}
 use Rattle.block.specs.Profile.{messageLength}
 use Rattle.block.specs.declared.Profile.{Profile}
 use Rattle.sheet.specs.Sheet.{differ}

@@ -6,7 +6,7 @@ use native.Mathlib.Omega.{arith}
 use mathlib.Core.Path.{_≡_, sym, _∙_}
 use mathlib.Core.Bool.{true}
 use mathlib.Core.List.{List}
-use Rattle.code.proofs.Poly.{bytes-of}
+use Rattle.lists.proofs.Bytes.{bytes-of}
 use Rattle.block.specs.Profile.{inRange}
 use Rattle.block.specs.Block.{correctFits}
 use Rattle.block.specs.Promises.{Cells}

@@ -4,7 +4,7 @@ use Prim.Native.Nat.{ℕ}
 use native.Mathlib.Omega.{arith}
 use mathlib.Core.Path.{sym, _∙_}
 use mathlib.Core.List.{List}
-use Rattle.code.proofs.Poly.{bytes-of}
+use Rattle.lists.proofs.Bytes.{bytes-of}
 use Rattle.block.specs.Promises.{Cells}
 use Rattle.block.proofs.Entries.{remainder-cells}
 use Rattle.block.proofs.Outcome.{outcome-long, outcome-twice, outcome-fits, outcome-once}

@@ -3,7 +3,7 @@ use borrow.Author.Needs.{needs}
 use native.Mathlib.Omega.{arith}
 use Prim.Native.Nat.{ℕ}
 use mathlib.Core.List.{List}
-use Rattle.code.proofs.Poly.{bytes-of}
+use Rattle.lists.proofs.Bytes.{bytes-of}
 use Rattle.block.proofs.Entries.{checks-law}
 use Rattle.block.proofs.message_checks.Statement.{statement}
 use Rattle.block.proofs.message_checks.Tie as tie

@@ -5,7 +5,7 @@ use mathlib.Core.Path.{sym}
 use lib.Seq.{length-take-le}
 use Prim.Native.Nat.{ℕ}
 use mathlib.Core.List.{List}
-use Rattle.code.proofs.Poly.{bytes-of}
+use Rattle.lists.proofs.Bytes.{bytes-of}
 use Rattle.block.proofs.Entries.{remainder-law}
 use Rattle.block.proofs.remainder_of.Statement.{statement}
 use Rattle.block.proofs.remainder_of.Tie as tie

@@ -8,11 +8,11 @@ use mathlib.Core.List.{_++_}
 use lib.ListN.{length, drop}
 use borrow.Author.Tests.{not-true, not-false}
 use borrow.Rule.Slice.PartMut.{midOf, mid-len, same-len-mid}
-use Rattle.code.specs.Poly.{Bytes}
+use Rattle.lists.specs.Bytes.{Bytes}
 use Rattle.sheet.specs.Sheet.{joined, codeword, isCorrected, answerFrom, sheetAnswer}
 use Rattle.sheet.proofs.Places.{part-inside}
 use Rattle.sheet.proofs.Apart.{rows-start, rows-more, rows-end}
-use Rattle.code.proofs.Poly.{bytes-of}
+use Rattle.lists.proofs.Bytes.{bytes-of}
 use Rattle.sheet.proofs.Steps.{changed-small, turn-start, turn-on, turn-stop, turn-end}
 use Rattle.sheet.proofs.correct_blocks.Statement.{statement}
 use Rattle.sheet.proofs.correct_blocks.Tie as tie
