@@ -18,7 +18,6 @@ use Rattle.code.proofs.Division.{remainder-length, remainder-bytes, remainder-s
 use Rattle.code.proofs.Shifted.{distance-run}
 use Rattle.code.proofs.Theorems.{minimum-distance}
 use Rattle.block.specs.Block.{checkCells, encode}
-use Rattle.block.specs.Promises.{WritesCodeword, Word}
 
 module _ (b r : ℕ) (m : List ℕ) where
   pub check-length : length (checkCells b r m) ≡ r
@@ -66,12 +65,3 @@ same-message n r b c d hn hc hd e =
     at i q =
         let k : r + (i - r) ≡ i = omega arith in
         ap (λ (j : ℕ). getD c j 0) (sym k) ∙ sym (getD-drop r c (i - r) 0) ∙ ap (λ (p : List ℕ). getD p (i - r) 0) e ∙ getD-drop r d (i - r) 0 ∙ ap (λ (j : ℕ). getD d j 0) k
-
-pub writes-codeword : WritesCodeword
-writes-codeword p m v l h =
-    let w : Word p (encode (p .b) (p .r) m) = encode-codeword (p .b) (p .r) m h (p .n) (v .r-below) (omega (arith, v .r-most)) l in
-    record {
-      word = w;
-      message = encode-message (p .b) (p .r) m;
-      only = λ c hc e. same-message (p .n) (p .r) (p .b) c (encode (p .b) (p .r) m) (v .n-most) hc w (e ∙ sym (encode-message (p .b) (p .r) m));
-    }

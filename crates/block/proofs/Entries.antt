@@ -25,32 +25,18 @@ use Rattle.register.proofs.Generator.{monic-generator}
 use Rattle.register.proofs.LastCell.{extent-pad}
 use Rattle.register.proofs.Remainder.{remainder-feeds, check-cells}
 use Rattle.block.specs.Profile.{InRange, inRange, messageLength}
-use Rattle.block.specs.Block.{checkCells, encode, refusing, isClean, verdict, filled, checkAnswer, writeFits, writeAnswer, writeLeaves, correctFits, correctAnswer, correctLeaves}
+use Rattle.block.specs.Block.{checkCells, encode, isClean, verdict, filled, checkAnswer, writeFits, writeAnswer, writeLeaves, correctFits, correctAnswer, correctLeaves}
 use Rattle.block.specs.Found.{generatorOnTop}
 use Rattle.block.specs.declared.Verdict.{Verdict}
 use Rattle.block.specs.declared.Verdict.the-variants as verdicts
 use Rattle.block.specs.declared.Written.the-variants as writes
 use Rattle.block.specs.declared.Checked.the-variants as checks
 use Rattle.block.specs.declared.Profile.{Profile}
+use Rattle.block.proofs.Refusing.{refuse-one, refuse-two, accept}
 use Rattle.block.proofs.Encoding.{check-length}
 
--- ---- refusals
+-- ---- lengths
 
-module _ {A : Type 0} (p : Profile) (fits : Bool) (one two rest : A) where
-  pub refuse-one : inRange p ≡ false → one ≡ refusing p fits one two rest
-  unfolding refusing
-  refuse-one e = rw e
-
-  module _ (v : inRange p ≡ true) where
-    pub refuse-two : fits ≡ false → two ≡ refusing p fits one two rest
-    unfolding refusing
-    refuse-two e = rw (v, e)
-
-    pub accept : fits ≡ true → rest ≡ refusing p fits one two rest
-    unfolding refusing
-    accept e = rw (v, e)
-
--- two lengths
 pub both-right-length : (a b m n : ℕ) → a ≡ m → b ≡ n → both (eqb a m) (eqb b n) ≡ true
 both-right-length a b m n e f = rw (eq-eqb a m e, eq-eqb b n f)
 

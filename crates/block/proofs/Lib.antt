@@ -1,8 +1,12 @@
 pub mod Ranges
+pub mod Refusing
+pub mod NumberLaws
 pub mod Shortest
 pub mod Encoding
-pub mod Promises
+pub mod Verdicts
 pub mod Steps
 pub mod Entries
+pub mod Answers
 pub mod Outcome
 pub mod Copies
+pub mod Promises

@@ -9,7 +9,6 @@ use lib.ListN.{length, take, drop, replicate}
 use lib.Seq.{take-append-le}
 use mathlib.Core.Logic.{_≢_}
 use borrow.Author.Tests.{lt-ltb, le-ltb, eq-eqb, ne-eqb}
-use Rattle.lists.proofs.Fill.{fill-all}
 use Rattle.code.specs.Code.{generator, remainder}
 use Rattle.code.specs.Run.{backSteps, shiftedRemainder, addedAt}
 use Rattle.code.specs.Search.{Best, extents, scanned}
@@ -22,20 +21,20 @@ use Rattle.register.proofs.Align.{pad-is}
 use Rattle.block.specs.Profile.{InRange}
 use Rattle.block.specs.Block.{isClean, decided, verdict, filled}
 use Rattle.block.specs.Found.{bestOf, Searched}
-use Rattle.block.specs.Promises.{Cells}
+use Rattle.block.specs.Runs.{Cells}
 use Rattle.block.specs.declared.Profile.{Profile}
 use Rattle.block.specs.declared.Found.{Found}
 use Rattle.block.specs.declared.Verdict.the-variants.{Uncorrectable, Ambiguous, Corrected}
 use Rattle.block.proofs.Shortest.{best, scan, clean-verdict, wrong-verdict}
-use Rattle.block.proofs.Promises.{added-none}
+use Rattle.block.proofs.Verdicts.{added-none}
 
 -- a clean block is copied
-pub outcome-clean : (p : Profile) (y out o : List ℕ) → InRange p → Cells p y → isClean (p .b) (p .r) y ≡ true → length out ≡ length y
-    → o ≡ take (length y) y ++ drop (length y) out → (Corrected 0 0 ≡ verdict p y) × (o ≡ filled p y out (verdict p y))
+pub outcome-clean : (p : Profile) (y out o : List ℕ) → InRange p → Cells p y → isClean (p .b) (p .r) y ≡ true → o ≡ y
+    → (Corrected 0 0 ≡ verdict p y) × (o ≡ filled p y out (verdict p y))
 unfolding filled
-outcome-clean p y out o v h t l e =
+outcome-clean p y out o v h t e =
     let q : Corrected 0 0 ≡ verdict p y = sym (clean-verdict p y v h t) in
-    (q, e ∙ fill-all (length y) y out (omega arith) (omega arith) ∙ sym (added-none y 0 (shiftedRemainder (p .b) (p .r) 0 y) zero-le) ∙ ap (filled p y out) q)
+    (q, e ∙ sym (added-none y 0 (shiftedRemainder (p .b) (p .r) 0 y) zero-le) ∙ ap (filled p y out) q)
 
 -- the first cells of a list that is padded
 take-pad : (f : ℕ) (l : List ℕ) → f ≤ length l → length l ≤ 64 → take f (padTo 64 l) ≡ take f l

@@ -1,319 +1,222 @@
--- The promises of specs/Promises.antt. A block is clean, or the search has found what it means; each equivalence goes by these cases.
-use mathlib.Core.Path.{_≡_, refl, sym, ap, ap₂, _∙_, subst}
-use mathlib.Core.Logic.{_≢_, _⊎_, inl, inr, ⊎-elim}
-use mathlib.Core.Bool.{true, false}
-use mathlib.Core.List.{List, []}
-use Prim.Native.Nat.{ℕ, zero, suc, _≤_, _<_, zero-le}
+-- The promises of specs/Promises.antt. Where profile and lengths are right the entry answers the verdict, of which Verdicts.antt says what it means;
+-- else it answers refusal 1 or 2.
+use mathlib.Core.Path.{_≡_, refl, sym, ap, ap₂, subst, _∙_}
+use mathlib.Core.Logic.{_↔_, _≢_, ⊎-elim}
+use mathlib.Core.Bool.{Bool, true, false}
+use mathlib.Core.List.{List}
+use Prim.Native.Nat.{ℕ, _<_}
 use native.Mathlib.Omega.{arith}
-use lib.Dec.{ltb}
-use lib.ListN.{length, take}
-use borrow.Author.Tests.{ltb-true, ltb-false, lt-ltb, le-ltb}
-use Rattle.lists.proofs.Test.{true-or-false, true-false}
-use Rattle.code.specs.Poly.{padd}
-use Rattle.code.specs.Run.{shiftedRemainder, addedAt}
-use Rattle.code.specs.Search.{Best}
-use Rattle.code.proofs.Poly.{padd-zeros}
+use lib.Dec.{eqb, ltb}
+use lib.ListN.{length, drop}
+use borrow.Author.Tests.{eq-eqb, eqb-true}
+use Rattle.lists.specs.Choice.{pick, both}
+use Rattle.lists.proofs.Test.{true-or-false, true-false, both-true, pick-of}
+use Rattle.code.specs.Code.{syndrome, generator, remainder}
+use Rattle.code.specs.Search.{Best, extent, extents, scanned}
 use Rattle.code.proofs.Division.{codeword-syndromes, syndromes-codeword}
-use Rattle.code.proofs.Theorems.{two-runs}
-use Rattle.block.specs.Profile.{InRange}
-use Rattle.block.specs.Block.{isClean, decided, judged, verdict, filled, corrected}
-use Rattle.block.specs.Promises.{Cells, Word, Reached, NoneReached, TwoReached, OneReached, CleanIff, UncorrectableIff, AmbiguousIff, CorrectedIff, ExactlyOne, DepthFree, HalfPromise}
+use Rattle.block.specs.Profile.{InRange, InRangeIff, messageLength}
+use Rattle.block.specs.Block.{refusing, encode, isClean, decided, judged, verdict, corrected, filled, writeFits, writeAnswer, writeLeaves, checkAnswer, correctFits, correctAnswer, correctLeaves}
+use Rattle.block.specs.Numbers.{verdictNumber, verdictStart, verdictLength, writtenNumber, writtenPlace, checkedNumber, checkedPlace, checkedClean}
+use Rattle.block.specs.Runs.{Cells, Word, NoneReached, TwoReached, OneReached}
+use Rattle.block.specs.Promises.{WritesCodeword, CalledClean, CleanIff, LentBlock, UncorrectableIff, AmbiguousIff, Corrects, CorrectedIff, HalfPromise, DepthFree, EarlyRefusals, WriteRefusals, CheckRefusals, CorrectRefusals, BlockRefusals}
 use Rattle.block.specs.declared.Profile.{Profile}
 use Rattle.block.specs.declared.Verdict.{Verdict}
-use Rattle.block.specs.declared.Verdict.the-variants.{BadProfile, WrongLength, Uncorrectable, Ambiguous, Corrected}
-use Rattle.block.proofs.Shortest.{empty-run, word, best, e, scan, reach-word, extent-reach, clean-word, word-clean, clean-verdict, wrong-verdict, reach-start, reach-size, small, best-reach, best-least, at-size, apart}
+use Rattle.block.specs.declared.Verdict.the-variants as verdicts
+use Rattle.block.specs.declared.Written.{Written}
+use Rattle.block.specs.declared.Written.the-variants as writes
+use Rattle.block.specs.declared.Checked.{Checked}
+use Rattle.block.specs.declared.Checked.the-variants as checks
+use Rattle.block.proofs.Ranges.{in-range}
+use Rattle.block.proofs.Refusing.{early-of, kept-of}
+use Rattle.block.proofs.NumberLaws.{number-0, number-3, number-4, place-0, no-run, written-place-0, checked-place-0, not-called}
+use Rattle.block.proofs.Shortest.{clean-word, word-clean}
+use Rattle.block.proofs.Encoding.{encode-message, encode-codeword, same-message}
+use Rattle.block.proofs.Verdicts.{verdict-none, verdict-two, verdict-one, verdict-half, same-verdict, same-filled}
+use Rattle.block.proofs.Answers.{write-accepted, block-written, block-checked, block-answer, block-leaves, block-kept}
 
--- three verdicts that differ
-uncorrectable-ambiguous : _≡_ {A = Verdict} Uncorrectable Ambiguous → ⊥
-uncorrectable-ambiguous q = let z : _≡_ {A = ℕ} 0 1 = cc in omega arith
+pub in-range-iff : InRangeIff
+in-range-iff = in-range
 
-uncorrectable-corrected : {s f : ℕ} → _≡_ {A = Verdict} Uncorrectable (Corrected s f) → ⊥
-uncorrectable-corrected q = let z : _≡_ {A = ℕ} 0 1 = cc in omega arith
+-- ---- the writer
 
-ambiguous-corrected : {s f : ℕ} → _≡_ {A = Verdict} Ambiguous (Corrected s f) → ⊥
-ambiguous-corrected q = let z : _≡_ {A = ℕ} 0 1 = cc in omega arith
-
--- nothing added is the word itself
-pub added-none : (y : List ℕ) (s : ℕ) (R : List ℕ) → s ≤ length y → addedAt s (take 0 R) y ≡ y
-unfolding addedAt
-added-none y s R l = ap (padd y) (rw mathlib.Core.List.append-nil) ∙ padd-zeros y s l
-
--- the codeword of a verdict
-pub corrected-at : (p : Profile) (y : List ℕ) (s f : ℕ) → verdict p y ≡ Corrected s f → corrected p y ≡ addedAt s (take f (shiftedRemainder (p .b) (p .r) s y)) y
-unfolding corrected filled
-corrected-at p y s f q = rw q
-
-module _ (p : Profile) (y : List ℕ) (v : InRange p) (h : Cells p y) where
-  -- ---- a clean block
-
-  module _ (t : isClean (p .b) (p .r) y ≡ true) where
-    itself : Reached p y 0 0 y
-    itself = record { run = zero-le; codeword = clean-word p y v h t; agree = λ i l o. refl }
-
-    clean-none : NoneReached p y → ⊥
-    clean-none n = n 0 0 y zero-le itself
-
-    clean-two : TwoReached p y → ⊥
-    clean-two z =
-        let s₀ : z .size ≡ 0 = (let l : z .size ≤ 0 = z .least 0 0 y itself in omega arith) in
-        z .differ
-        (empty-run (p .n) (p .r) (p .b) y (z .start₁) (z .first) (h .count) (subst (λ (x : ℕ). Reached p y (z .start₁) x (z .first)) s₀ (z .reached₁))
-        ∙ sym (empty-run (p .n) (p .r) (p .b) y (z .start₂) (z .second) (h .count) (subst (λ (x : ℕ). Reached p y (z .start₂) x (z .second)) s₀ (z .reached₂))))
-
-    clean-cells : corrected p y ≡ y
-    clean-cells = corrected-at p y 0 0 (clean-verdict p y v h t) ∙ added-none y 0 (shiftedRemainder (p .b) (p .r) 0 y) zero-le
-
-    clean-one : OneReached p y 0 0 y
-    clean-one = record {
-      within = zero-le;
-      reached = itself;
-      least = λ s f c k. zero-le;
-      others = λ s f c k n. positive f (λ q. n (empty-run (p .n) (p .r) (p .b) y s c (h .count) (subst (λ (x : ℕ). Reached p y s x c) q k)));
-      clean = λ _. (refl, refl);
+pub writes-codeword : WritesCodeword
+writes-codeword p m out v l h e =
+    let c : List ℕ = encode (p .b) (p .r) m in
+    let q : writeLeaves p m out ≡ c = block-written p v m out l e in
+    let w : Word p c = encode-codeword (p .b) (p .r) m h (p .n) (v .r-below) (omega (arith, v .r-most)) l in
+    record {
+      accepted = ap writtenNumber (write-accepted p v m out l e);
+      word = subst (Word p) (sym q) w;
+      message = ap (drop (p .r)) q ∙ encode-message (p .b) (p .r) m;
+      only = λ d hd i. same-message (p .n) (p .r) (p .b) d c (v .n-most) hd w (i ∙ sym (encode-message (p .b) (p .r) m)) ∙ sym q;
     }
-      where
-        positive : (f : ℕ) → f ≢ 0 → 0 < f
-        positive zero n = absurd (n refl)
-        positive (suc f) n = omega arith
 
-    -- and no other start, length and codeword
-    clean-only : (s f : ℕ) (c : List ℕ) → OneReached p y s f c → (s ≡ 0) × (f ≡ 0) × (c ≡ y)
-    clean-only s f c o =
-        let f₀ : f ≡ 0 = (let l : f ≤ 0 = o .least 0 0 y itself in omega arith) in
-        let q : c ≡ y = empty-run (p .n) (p .r) (p .b) y s c (h .count) (subst (λ (x : ℕ). Reached p y s x c) f₀ (o .reached)) in
-        (o .clean q .0, f₀, q)
+-- ---- the checker
 
-  -- ---- a block that is not clean
-
-  module _ (t : isClean (p .b) (p .r) y ≡ false) where
-    abbrev k : Best
-    k = best p y v h
-
-    abbrev W : ℕ → ℕ → List ℕ
-    W = word p y v h
-
-    too-long : p .limit < k .size → verdict p y ≡ Uncorrectable
-    unfolding decided
-    too-long l = wrong-verdict p y v h t ∙ rw (lt-ltb (p .limit) (k .size) l)
-
-    twice : k .size ≤ p .limit → k .again ≡ true → verdict p y ≡ Ambiguous
-    unfolding decided
-    twice l a = wrong-verdict p y v h t ∙ rw (le-ltb (p .limit) (k .size) l, a)
-
-    once : k .size ≤ p .limit → k .again ≡ false → verdict p y ≡ Corrected (k .start) (k .size)
-    unfolding decided
-    once l a = wrong-verdict p y v h t ∙ rw (le-ltb (p .limit) (k .size) l, a)
-
-    long-none : p .limit < k .size → NoneReached p y
-    long-none l s f c m r = let q : k .size ≤ f = reach-size p y v h t s f c m r in omega arith
-
-    module _ (l : k .size ≤ p .limit) where
-      hit : Reached p y (k .start) (k .size) (W (k .start) (k .size))
-      hit = best-reach p y v h t l
-
-      some-reached : NoneReached p y → ⊥
-      some-reached n = n (k .start) (k .size) (W (k .start) (k .size)) l hit
-
-      -- a second start
-      two-starts : k .again ≡ true → TwoReached p y
-      two-starts a =
-          let w = scan p y v h .twin a l in
-          let other : Reached p y (w .0) (k .size) (W (w .0) (k .size)) =
-          extent-reach p y v h (w .0) (k .size) (small p y v h t l) (let q : e p y v h (w .0) ≡ k .size = w .3 in omega (arith, w .2)) (let q : e p y v h (w .0) ≡ k .size = w .3 in omega arith) in
-          record {
-            size = k .size;
-            within = l;
-            least = best-least p y v h t l;
-            start₁ = k .start;
-            start₂ = w .0;
-            first = W (k .start) (k .size);
-            second = W (w .0) (k .size);
-            reached₁ = hit;
-            reached₂ = other;
-            differ = apart p y v h t l (k .start) (w .0) (W (k .start) (k .size)) (W (w .0) (k .size)) (λ q. w .4 (sym q)) hit other;
-          }
-
-      -- where no second start has it, a run of that length that reaches a codeword starts there
-      module _ (a : k .again ≡ false) where
-        same-start : (s : ℕ) (c : List ℕ) → Reached p y s (k .size) c → s ≡ k .start
-        same-start s c r =
-            let q : e p y v h s ≡ k .size = at-size p y v h t l s c r in
-            scan p y v h .alone a s l (reach-start p y v h t s (k .size) c r) (omega (arith, r .run)) q
-
-        same-word : (s : ℕ) (c : List ℕ) → Reached p y s (k .size) c → c ≡ W (k .start) (k .size)
-        same-word s c r =
-            reach-word p y v h s (k .size) c (small p y v h t l) r ∙ ap (λ (x : ℕ). W x (k .size)) (same-start s c r)
-
-        one-start : OneReached p y (k .start) (k .size) (W (k .start) (k .size))
-        one-start = record {
-          within = l;
-          reached = hit;
-          least = best-least p y v h t l;
-          others = λ s f c r n. longer (k .size) f (best-least p y v h t l s f c r) (λ q. n (same-word s c (subst (λ (x : ℕ). Reached p y s x c) (sym q) r)));
-          clean = λ q. absurd (true-false (word-clean p y v h (subst (Word p) q (hit .codeword))) t);
-        }
-          where
-            longer : (m f : ℕ) → m ≤ f → (m ≡ f → ⊥) → m < f
-            longer m f u n = omega arith
-
-        not-two : TwoReached p y → ⊥
-        not-two z =
-            let q : z .size ≡ k .size = (let i : z .size ≤ k .size = z .least (k .start) (k .size) _ hit in
-            let j : k .size ≤ z .size = reach-size p y v h t (z .start₁) (z .size) (z .first) (z .within) (z .reached₁) in omega arith) in
-            z .differ
-            (same-word (z .start₁) (z .first) (subst (λ (x : ℕ). Reached p y (z .start₁) x (z .first)) q (z .reached₁))
-            ∙ sym (same-word (z .start₂) (z .second) (subst (λ (x : ℕ). Reached p y (z .start₂) x (z .second)) q (z .reached₂))))
-
-        one-only : (s f : ℕ) (c : List ℕ) → OneReached p y s f c → (s ≡ k .start) × (f ≡ k .size) × (c ≡ W (k .start) (k .size))
-        one-only s f c o =
-            let q : f ≡ k .size = (let i : f ≤ k .size = o .least (k .start) (k .size) _ hit in let j : k .size ≤ f = reach-size p y v h t s f c (o .within) (o .reached) in omega arith) in
-            let r : Reached p y s (k .size) c = subst (λ (x : ℕ). Reached p y s x c) q (o .reached) in
-            (same-start s c r, q, same-word s c r)
-
-  -- two codewords of the least length leave no only one
-  two-one : (s f : ℕ) (c : List ℕ) → TwoReached p y → OneReached p y s f c → ⊥
-  two-one s f c z o =
-      let q : z .size ≤ f = z .least s f c (o .reached) in
-      let a : (z .first ≢ c) → ⊥ = λ n. (let l : f < z .size = o .others (z .start₁) (z .size) (z .first) (z .reached₁) n in omega arith) in
-      let b : (z .second ≢ c) → ⊥ = λ n. (let l : f < z .size = o .others (z .start₂) (z .size) (z .second) (z .reached₂) n in omega arith) in
-      a (λ i. b (λ j. z .differ (i ∙ sym j)))
-
--- ---- the three verdicts
-
--- the three cases: what the verdict is and what holds, for whoever wants either
 module _ (p : Profile) (y : List ℕ) (v : InRange p) (h : Cells p y) where
-  pub record IsOne (s f : ℕ) : Type 0 where
-    pub says : verdict p y ≡ Corrected s f
-    pub holds : OneReached p y s f (corrected p y)
-    pub only : (s′ f′ : ℕ) (c : List ℕ) → OneReached p y s′ f′ c → (s′ ≡ s) × (f′ ≡ f) × (c ≡ corrected p y)
+  abbrev flag : ℕ
+  flag = checkedClean (checkAnswer p y)
 
-  pub cases : ((verdict p y ≡ Uncorrectable) × NoneReached p y) ⊎ (((verdict p y ≡ Ambiguous) × TwoReached p y) ⊎ ((s f : ℕ) × IsOne s f))
-  cases =
-      ⊎-elim
-      (λ t. inr (inr (
-        0,
-        0,
-        record {
-          says = clean-verdict p y v h t;
-          holds = rw (clean-cells p y v h t) (clean-one p y v h t);
-          only = λ s f c o. rw (clean-cells p y v h t) (clean-only p y v h t s f c o);
-        },
-      )))
-      (λ t. ⊎-elim
-      (λ l. let m : p .limit < best p y v h .size = ltb-true _ _ l in inl (too-long p y v h t m, long-none p y v h t m))
-      (λ l. let m : best p y v h .size ≤ p .limit = ltb-false _ _ l in
-      ⊎-elim (λ a. inr (inl (twice p y v h t m a, two-starts p y v h t m a)))
-      (λ a.
-      let q : corrected p y ≡ word p y v h (best p y v h .start) (best p y v h .size) = corrected-at p y _ _ (once p y v h t m a) in
-      inr (inr (
-        best p y v h .start,
-        best p y v h .size,
-        record {
-          says = once p y v h t m a;
-          holds = rw q (one-start p y v h t m a);
-          only = λ s f c o. rw q (one-only p y v h t m a s f c o);
-        },
-      )))
-      (true-or-false (best p y v h .again)))
-      (true-or-false (ltb (p .limit) (best p y v h .size))))
+  called : (a : Bool) → isClean (p .b) (p .r) y ≡ a → _≡_ {A = ℕ} flag (pick a 1 0)
+  called true q = ap checkedClean (block-checked p v y (h .count) true q)
+  called false q = ap checkedClean (block-checked p v y (h .count) false q)
+
+  flag-word : (flag ≡ 1) ↔ Word p y
+  flag-word = (
+    λ q. ⊎-elim (λ t. clean-word p y v h t) (λ t. absurd (let z : flag ≡ 0 = called false t in omega arith)) (true-or-false (isClean (p .b) (p .r) y)),
+    λ w. called true (word-clean p y v h w),
+  )
+
+  checked-accepted : checkedNumber (checkAnswer p y) ≡ 0
+  checked-accepted =
+      ⊎-elim (λ t. ap checkedNumber (block-checked p v y (h .count) true t)) (λ t. ap checkedNumber (block-checked p v y (h .count) false t))
       (true-or-false (isClean (p .b) (p .r) y))
 
-  none-two : NoneReached p y → TwoReached p y → ⊥
-  none-two n z = n (z .start₁) (z .size) (z .first) (z .within) (z .reached₁)
+  flag-else : flag ≢ 1 → flag ≡ 0
+  flag-else n = ⊎-elim (λ t. absurd (n (called true t))) (λ t. called false t) (true-or-false (isClean (p .b) (p .r) y))
 
-  none-one : (s f : ℕ) (c : List ℕ) → NoneReached p y → OneReached p y s f c → ⊥
-  none-one s f c n o = n s f c (o .within) (o .reached)
-
-pub exactly-one : ExactlyOne
-exactly-one p y v h = record {
-  some = ⊎-elim (λ a. inl (a .1)) (λ r. inr (⊎-elim (λ b. inl (b .1)) (λ c. inr (c .0, c .1, corrected p y, c .2 .holds)) r)) (cases p y v h);
-  none-two = none-two p y v h;
-  none-one = none-one p y v h;
-  two-one = two-one p y v h;
-}
-
-pub uncorrectable-iff : UncorrectableIff
-uncorrectable-iff p y v h = (there, back)
-  where
-    there : verdict p y ≡ Uncorrectable → NoneReached p y
-    there q =
-        ⊎-elim (λ a. a .1)
-        (⊎-elim (λ b. absurd (uncorrectable-ambiguous (sym q ∙ b .0))) (λ c. absurd (uncorrectable-corrected (sym q ∙ c .2 .says)))) (cases p y v h)
-
-    back : NoneReached p y → verdict p y ≡ Uncorrectable
-    back n =
-        ⊎-elim (λ a. a .0)
-        (⊎-elim (λ b. absurd (none-two p y v h n (b .1))) (λ c. absurd (none-one p y v h (c .0) (c .1) (corrected p y) n (c .2 .holds)))) (cases p y v h)
-
-pub ambiguous-iff : AmbiguousIff
-ambiguous-iff p y v h = (there, back)
-  where
-    there : verdict p y ≡ Ambiguous → TwoReached p y
-    there q =
-        ⊎-elim (λ a. absurd (uncorrectable-ambiguous (sym (a .0) ∙ q)))
-        (⊎-elim (λ b. b .1) (λ c. absurd (ambiguous-corrected (sym q ∙ c .2 .says)))) (cases p y v h)
-
-    back : TwoReached p y → verdict p y ≡ Ambiguous
-    back z =
-        ⊎-elim (λ a. absurd (none-two p y v h (a .1) z))
-        (⊎-elim (λ b. b .0) (λ c. absurd (two-one p y v h (c .0) (c .1) (corrected p y) z (c .2 .holds)))) (cases p y v h)
-
-corrected-inj : {s f a e : ℕ} → _≡_ {A = Verdict} (Corrected s f) (Corrected a e) → (s ≡ a) × (f ≡ e)
-corrected-inj q = (cc, cc)
-
-pub corrected-iff : CorrectedIff
-corrected-iff p y s f c v h = (there, back)
-  where
-    there : (verdict p y ≡ Corrected s f) × (corrected p y ≡ c) → OneReached p y s f c
-    there q =
-        ⊎-elim (λ a. absurd (uncorrectable-corrected (sym (a .0) ∙ q .0)))
-        (⊎-elim (λ b. absurd (ambiguous-corrected (sym (b .0) ∙ q .0)))
-        (λ d.
-        let i : (d .0 ≡ s) × (d .1 ≡ f) = corrected-inj (sym (d .2 .says) ∙ q .0) in
-        rw (sym (i .0), sym (i .1), sym (q .1)) (d .2 .holds))) (cases p y v h)
-
-    back : OneReached p y s f c → (verdict p y ≡ Corrected s f) × (corrected p y ≡ c)
-    back o =
-        ⊎-elim (λ a. absurd (none-one p y v h s f c (a .1) o))
-        (⊎-elim (λ b. absurd (two-one p y v h s f c (b .1) o))
-        (λ d.
-        let i : (s ≡ d .0) × (f ≡ d .1) × (c ≡ corrected p y) = d .2 .only s f c o in
-        (d .2 .says ∙ ap₂ Corrected (sym (i .0)) (sym (i .1)), sym (i .2)))) (cases p y v h)
+  word-syndromes : Word p y ↔ ((i : ℕ) → i < p .r → syndrome (p .b) i y ≡ 0)
+  word-syndromes = (
+    codeword-syndromes (p .n) (p .r) (p .b) y,
+    syndromes-codeword (p .n) (p .r) (p .b) y (v .r-below) (omega (arith, v .r-most)) (h .count) (h .bytes),
+  )
 
 pub clean-iff : CleanIff
-clean-iff p y v h = (
-  (clean-word p y v h, word-clean p y v h),
-  (codeword-syndromes (p .n) (p .r) (p .b) y, syndromes-codeword (p .n) (p .r) (p .b) y (v .r-below) (omega (arith, v .r-most)) (h .count) (h .bytes)),
-)
+clean-iff p y v h =
+    let a = flag-word p y v h in
+    let b = word-syndromes p y v h in
+    record {
+      accepted = checked-accepted p y v h;
+      syndromes = (λ q. b .0 (a .0 q), λ s. a .1 (b .1 s));
+      codeword = a;
+      else = flag-else p y v h;
+    }
 
-module _ (p q : Profile) (y : List ℕ) (en : p .n ≡ q .n) (er : p .r ≡ q .r) (eb : p .b ≡ q .b) (el : p .limit ≡ q .limit) where
-  same-verdict : verdict p y ≡ verdict q y
-  unfolding verdict judged
-  same-verdict = rw (en, er, eb, el)
+-- ---- the corrector
 
-  same-filled : (w : Verdict) → filled p y [] w ≡ filled q y [] w
-  unfolding filled
-  same-filled (Corrected s f) = rw (er, eb)
-  same-filled BadProfile = refl
-  same-filled WrongLength = refl
-  same-filled Uncorrectable = refl
-  same-filled Ambiguous = refl
+module _ (p : Profile) (y out : List ℕ) (v : InRange p) (h : LentBlock p y out) where
+  abbrev answer : Verdict
+  answer = correctAnswer p y out
 
-pub depth-free : DepthFree
-unfolding corrected
-depth-free p q y en er eb el =
-    let e : verdict p y ≡ verdict q y = same-verdict p q y en er eb el in
-    (e, same-filled p q y en er eb el (verdict p y) ∙ ap (filled q y []) e)
+  is-verdict : answer ≡ verdict p y
+  is-verdict = block-answer p v y (h .cells .count) out (h .second)
+
+  leaves-word : (s f : ℕ) → verdict p y ≡ verdicts.Corrected s f → correctLeaves p y out ≡ corrected p y
+  leaves-word s f q = block-leaves p v y (h .cells .count) out (h .second) (ap verdictNumber q)
+
+  corrects-there : (s f : ℕ) (c : List ℕ) → Corrects p y out s f c → OneReached p y s f c
+  corrects-there s f c k =
+      let w : verdict p y ≡ verdicts.Corrected s f = sym is-verdict ∙ number-0 answer (k .accepted) ∙ ap₂ verdicts.Corrected (k .start) (k .size) in
+      verdict-one p y s f c v (h .cells) .0 (w, sym (leaves-word s f w) ∙ k .leaves)
+
+  corrects-back : (s f : ℕ) (c : List ℕ) → OneReached p y s f c → Corrects p y out s f c
+  corrects-back s f c o =
+      let q = verdict-one p y s f c v (h .cells) .1 o in
+      let a : answer ≡ verdicts.Corrected s f = is-verdict ∙ q .0 in
+      record { accepted = ap verdictNumber a; start = ap verdictStart a; size = ap verdictLength a; leaves = leaves-word s f (q .0) ∙ q .1 }
+
+pub uncorrectable-iff : UncorrectableIff
+uncorrectable-iff p y out v h =
+    let e = is-verdict p y out v h in
+    let k = verdict-none p y v (h .cells) in
+    (λ q. k .0 (sym e ∙ number-3 (correctAnswer p y out) q), λ n. ap verdictNumber (e ∙ k .1 n))
+
+pub ambiguous-iff : AmbiguousIff
+ambiguous-iff p y out v h =
+    let e = is-verdict p y out v h in
+    let k = verdict-two p y v (h .cells) in
+    (λ q. k .0 (sym e ∙ number-4 (correctAnswer p y out) q), λ n. ap verdictNumber (e ∙ k .1 n))
+
+pub corrected-iff : CorrectedIff
+corrected-iff p y out s f c v h = (corrects-there p y out v h s f c, corrects-back p y out v h s f c)
 
 pub half-promise : HalfPromise
-half-promise p y s f c v h l m k =
-    let same : (a e : ℕ) (d : List ℕ) → Reached p y a e d → e ≤ f → d ≡ c =
-    λ a e d r u. two-runs (p .n) (p .r) (p .b) y a e s f d c (v .n-most) (h .count) r k (omega arith) in
-    ⊎-elim (λ a. absurd (a .1 s f c (omega arith) k))
-    (⊎-elim
-    (λ b.
-    let z : TwoReached p y = b .1 in
-    let u : z .size ≤ f = z .least s f c k in
-    absurd (z .differ (same (z .start₁) (z .size) (z .first) (z .reached₁) u ∙ sym (same (z .start₂) (z .size) (z .second) (z .reached₂) u))))
-    (λ d. ((d .0, d .1, d .2 .says), same (d .0) (d .1) (corrected p y) (d .2 .holds .reached) (d .2 .holds .least s f c k))))
-    (cases p y v h)
+half-promise p y out s f c v h l m k =
+    let q = verdict-half p y s f c v (h .cells) l m k in
+    (ap verdictNumber (is-verdict p y out v h ∙ q .0 .2), leaves-word p y out v h (q .0 .0) (q .0 .1) (q .0 .2) ∙ q .1)
+
+module _ (p q : Profile) (y out : List ℕ) (v : InRange p) (w : InRange q) (en : p .n ≡ q .n) (er : p .r ≡ q .r) (eb : p .b ≡ q .b) (el : p .limit ≡ q .limit) where
+  same-fits : correctFits p y out ≡ correctFits q y out
+  unfolding correctFits
+  same-fits = rw en
+
+  same-answer : correctAnswer p y out ≡ correctAnswer q y out
+  unfolding correctAnswer refusing
+  same-answer = rw (in-range p .1 v, in-range q .1 w, same-fits, same-verdict p q y en er eb el)
+
+  same-leaves : correctLeaves p y out ≡ correctLeaves q y out
+  unfolding correctLeaves
+  same-leaves = same-filled p q y en er eb el out (correctAnswer p y out) ∙ ap (filled q y out) same-answer
+
+pub depth-free : DepthFree
+depth-free p q y out v w en er eb el = (same-answer p q y out v w en er eb el, same-leaves p q y out v w en er eb el)
+
+-- ---- refusals
+
+-- the test of two lengths is what it says
+pub two-lengths : (a b m n : ℕ) → (both (eqb a m) (eqb b n) ≡ true) ↔ ((a ≡ m) × (b ≡ n))
+two-lengths a b m n = (
+  λ t. let z = both-true (eqb a m) (eqb b n) t in (eqb-true a m (z .0), eqb-true b n (z .1)),
+  λ z. rw (eq-eqb a m (z .0), eq-eqb b n (z .1)),
+)
+
+module _ (p : Profile) (m out : List ℕ) where
+  write-refusals : WriteRefusals p m out
+  unfolding writeAnswer writeLeaves writeFits
+  write-refusals = record {
+    early =
+        early-of p (writeFits p m out) _ (two-lengths (length m) (length out) (messageLength p) (p .n)) writtenNumber writes.BadProfile writes.WrongLength writes.Done refl refl
+        (λ q. omega arith) (λ q. omega arith);
+    place = written-place-0 (writeAnswer p m out);
+    kept = λ n. kept-of p (writeFits p m out) writtenNumber writes.BadProfile writes.WrongLength writes.Done out (encode (p .b) (p .r) m) refl n;
+  }
+
+module _ (p : Profile) (y : List ℕ) where
+  abbrev result : Checked
+  result = pick (isClean (p .b) (p .r) y) checks.Clean checks.NotClean
+
+  result-0 : checkedNumber result ≡ 0
+  result-0 = pick-of (λ (w : Checked). checkedNumber w ≡ 0) (isClean (p .b) (p .r) y) checks.Clean checks.NotClean refl refl
+
+  check-refusals : CheckRefusals p y
+  unfolding checkAnswer
+  check-refusals = record {
+    early =
+        early-of p (eqb (length y) (p .n)) (length y ≡ p .n) (eqb-true (length y) (p .n), eq-eqb (length y) (p .n)) checkedNumber checks.BadProfile checks.WrongLength result refl refl
+        (λ q. let z : checkedNumber result ≡ 0 = result-0 in omega arith) (λ q. let z : checkedNumber result ≡ 0 = result-0 in omega arith);
+    place = checked-place-0 (checkAnswer p y);
+    flag = not-called (checkAnswer p y);
+  }
+
+-- the verdict is none of the first two refusals
+abbrev pub Late : Verdict → Type 0
+Late w = (verdictNumber w ≢ 1) × (verdictNumber w ≢ 2)
+
+chosen-late : (clean long again : Bool) (s f : ℕ)
+    → Late (pick clean (verdicts.Corrected 0 0) (pick long verdicts.Uncorrectable (pick again verdicts.Ambiguous (verdicts.Corrected s f))))
+chosen-late true long again s f = (λ q. omega arith, λ q. omega arith)
+chosen-late false true again s f = (λ q. omega arith, λ q. omega arith)
+chosen-late false false true s f = (λ q. omega arith, λ q. omega arith)
+chosen-late false false false s f = (λ q. omega arith, λ q. omega arith)
+
+pub verdict-late : (p : Profile) (y : List ℕ) → Late (verdict p y)
+unfolding verdict judged decided
+verdict-late p y =
+    let R : List ℕ = remainder (p .r) (generator (p .b) (p .r)) y in
+    let k : Best = scanned (extents (generator (p .b) (p .r)) R) (p .n) (p .limit) (p .n) in
+    chosen-late (eqb (extent R) 0) (ltb (p .limit) (k .size)) (k .again) (k .start) (k .size)
+
+module _ (p : Profile) (y out : List ℕ) where
+  correct-refusals : CorrectRefusals p y out
+  unfolding correctAnswer correctFits
+  correct-refusals = record {
+    early =
+        early-of p (correctFits p y out) _ (two-lengths (length y) (length out) (p .n) (p .n)) verdictNumber verdicts.BadProfile verdicts.WrongLength (verdict p y) refl refl
+        (verdict-late p y .0) (verdict-late p y .1);
+    place = place-0 (correctAnswer p y out);
+    kept = block-kept p y out;
+    run = no-run (correctAnswer p y out);
+  }
+
+pub block-refusals : (p : Profile) → BlockRefusals p
+block-refusals p = record { writes = write-refusals p; checks = check-refusals p; corrects = correct-refusals p }

@@ -22,7 +22,7 @@ use Rattle.code.proofs.Search.{extent-zero, extent-least, Scan, scan-all}
 use Rattle.code.proofs.Theorems.{run-reaches}
 use Rattle.block.specs.Profile.{InRange}
 use Rattle.block.specs.Block.{isClean, decided, judged, verdict}
-use Rattle.block.specs.Promises.{Cells, Word, Reached, Least}
+use Rattle.block.specs.Runs.{Cells, Word, Reached, Least}
 use Rattle.block.specs.declared.Profile.{Profile}
 use Rattle.block.specs.declared.Verdict.the-variants.{Corrected}
 

@@ -14,7 +14,6 @@ use lib.Bits.{bitXor}
 use borrow.Rule.Slice.PartMut.{midOf, putMid}
 use borrow.Author.Tests.{lt-ltb, le-ltb, le-leb, lt-leb, eq-eqb, ne-eqb, ltb-true, ltb-false}
 use Rattle.lists.specs.Choice.{pick}
-use Rattle.lists.proofs.Fill.{fill-all}
 use Rattle.lists.proofs.Test.{lt-or-ge, true-or-false, true-false}
 use Rattle.field.specs.Field.{add}
 use Rattle.field.proofs.Sum.{add-zero-r}
@@ -165,11 +164,9 @@ sum-placed (suc s) f [] e l = absurd (omega arith)
 sum-placed (suc s) f (x ∷ y) e l = ap₂ _∷_ (sym (add-zero-r x)) (sum-placed s f y e (omega arith))
 
 -- the read cells copied, and the sum laid back over the run
-pub placed-law : (read out copied part last error : List ℕ) (start size k : ℕ) → length out ≡ length read → start + size ≤ length read → k ≡ size
-    → copied ≡ take (length read) read ++ drop (length read) out → part ≡ midOf start k copied → last ≡ padd part (take (length part) error)
+pub placed-law : (read copied part last error : List ℕ) (start size k : ℕ) → start + size ≤ length read → k ≡ size → copied ≡ read → part ≡ midOf start k copied → last ≡ padd part (take (length part) error)
     → putMid start k copied last ≡ addedAt start (take size error) read
-placed-law read out copied part last error start size k lo fits ek ec ep el =
-    let same : copied ≡ read = ec ∙ fill-all (length read) read out (omega arith) (omega arith) in
+placed-law read copied part last error start size k fits ek same ep el =
     let whole : part ≡ midOf start size read = ep ∙ ap₂ (λ (i : ℕ) (c : List ℕ). midOf start i c) ek same in
     let lm : length (midOf start size read) ≡ size = length-take-le size (drop start read) (omega (arith, length-drop start read)) in
     let sum : last ≡ padd (midOf start size read) (take size error) = el ∙ ap₂ (λ (q : List ℕ) (i : ℕ). padd q (take i error)) whole (ap length whole ∙ lm) in

@@ -89,38 +89,3 @@ correctAnswer p y out = refusing p (correctFits p y out) verdicts.BadProfile ver
 
 unfoldable pub correctLeaves : Profile → List ℕ → List ℕ → List ℕ
 correctLeaves p y out = filled p y out (correctAnswer p y out)
-
--- ---- document 01's numbers (E5): the refusal's number, or 0; a lone block's refusal has place 0
-
-abbrev pub verdictNumber : Verdict → ℕ
-verdictNumber verdicts.BadProfile = 1
-verdictNumber verdicts.WrongLength = 2
-verdictNumber verdicts.Uncorrectable = 3
-verdictNumber verdicts.Ambiguous = 4
-verdictNumber (verdicts.Corrected s f) = 0
-
--- "the result is s and f"; 0 and 0 beside a refusal
-abbrev pub verdictStart : Verdict → ℕ
-verdictStart (verdicts.Corrected s f) = s
-verdictStart verdicts.BadProfile = 0
-verdictStart verdicts.WrongLength = 0
-verdictStart verdicts.Uncorrectable = 0
-verdictStart verdicts.Ambiguous = 0
-
-abbrev pub verdictLength : Verdict → ℕ
-verdictLength (verdicts.Corrected s f) = f
-verdictLength verdicts.BadProfile = 0
-verdictLength verdicts.WrongLength = 0
-verdictLength verdicts.Uncorrectable = 0
-verdictLength verdicts.Ambiguous = 0
-
-abbrev pub writtenNumber : Written → ℕ
-writtenNumber writes.BadProfile = 1
-writtenNumber writes.WrongLength = 2
-writtenNumber writes.Done = 0
-
-abbrev pub checkedNumber : Checked → ℕ
-checkedNumber checks.BadProfile = 1
-checkedNumber checks.WrongLength = 2
-checkedNumber checks.Clean = 0
-checkedNumber checks.NotClean = 0

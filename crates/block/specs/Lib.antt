@@ -1,4 +1,6 @@
 pub mod Profile
 pub mod Block
-pub mod Found
+pub mod Numbers
+pub mod Runs
 pub mod Promises
+pub mod Found

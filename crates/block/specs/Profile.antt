@@ -1,5 +1,7 @@
 -- The profile of document 01: the ranges of its five numbers (B1), and k and h (B2).
-use mathlib.Core.Bool.{Bool}
+use mathlib.Core.Path.{_≡_}
+use mathlib.Core.Logic.{_↔_}
+use mathlib.Core.Bool.{Bool, true}
 use Prim.Native.Nat.{ℕ, _-_, _/_, _≤_, _<_}
 use lib.Dec.{leb, ltb}
 use Rattle.lists.specs.Choice.{both}
@@ -29,6 +31,10 @@ inRange p =
     (both (ltb (p .limit) (p .r))
     (both (leb 1 (p .depth))
     (leb (p .depth) 16))))))))
+
+-- the test is what it says
+abbrev pub InRangeIff : Type 0
+InRangeIff = (p : Profile) → (inRange p ≡ true) ↔ InRange p
 
 -- "Write k = n−r"
 abbrev pub messageLength : Profile → ℕ

@@ -1,106 +1,113 @@
--- The promises on one block, in the words of document 01 and with no word of how a run is searched (B4 to B10). A run, what it
--- reaches and what a codeword is are defined in the code crate, specs/Code.antt and specs/Run.antt. proofs/Promises.antt proves each.
+-- The promises on one block, of what the entries answer and leave in their buffers, through document 01's numbers (B4 to B10, E3 to E5). They name
+-- no search: what a run reaches is Runs.antt, the numbers are Numbers.antt, and the contracts in src/lib.rt say that the functions answer and
+-- leave `writeAnswer`, `writeLeaves`, `checkAnswer`, `correctAnswer` and `correctLeaves`. proofs/Promises.antt proves each.
 use mathlib.Core.Path.{_≡_}
-use mathlib.Core.Logic.{_↔_, _≢_, _⊎_}
-use mathlib.Core.Bool.{true}
+use mathlib.Core.Logic.{_↔_, _≢_}
 use mathlib.Core.List.{List}
 use Prim.Native.Nat.{ℕ, _≤_, _<_}
 use lib.ListN.{length, drop}
 use Rattle.lists.specs.Bytes.{Bytes}
-use Rattle.code.specs.Code.{Codeword, syndrome}
-use Rattle.code.specs.Run.{Reaches}
+use Rattle.code.specs.Code.{syndrome}
 use Rattle.block.specs.Profile.{InRange, messageLength, half}
-use Rattle.block.specs.Block.{encode, isClean, verdict, corrected}
+use Rattle.block.specs.Block.{writeAnswer, writeLeaves, checkAnswer, correctAnswer, correctLeaves}
+use Rattle.block.specs.Numbers.{verdictNumber, verdictPlace, verdictStart, verdictLength, writtenNumber, writtenPlace, checkedNumber, checkedPlace, checkedClean}
+use Rattle.block.specs.Runs.{Cells, Word, Reached, NoneReached, TwoReached, OneReached, OneOfThree}
 use Rattle.block.specs.declared.Profile.{Profile}
-use Rattle.block.specs.declared.Verdict.the-variants.{Uncorrectable, Ambiguous, Corrected}
 
-module _ (p : Profile) where
-  -- n cells, one byte each
-  pub record Cells (y : List ℕ) : Type 0 where
-    pub count : length y ≡ p .n
-    pub bytes : Bytes y
+-- ---- 1. B4: the writer
 
-  -- a codeword of this profile
-  abbrev pub Word : List ℕ → Type 0
-  Word c = Codeword (p .n) (p .r) (p .b) c
-
-  module _ (y : List ℕ) where
-    -- the run (s, f) of the read cells y reaches the codeword c
-    abbrev pub Reached : ℕ → ℕ → List ℕ → Type 0
-    Reached s f c = Reaches (p .n) (p .r) (p .b) y s f c
-
-    -- no run shorter than f reaches a codeword
-    abbrev pub Least : ℕ → Type 0
-    Least f = (s′ f′ : ℕ) (c′ : List ℕ) → Reached s′ f′ c′ → f ≤ f′
-
-    -- torn: "Let f be the least length, 0 to L, of a run that reaches some codeword. If there is none, the block is torn."
-    abbrev pub NoneReached : Type 0
-    NoneReached = (s f : ℕ) (c : List ℕ) → f ≤ p .limit → Reached s f c → ⊥
-
-    -- tied: "If two different codewords are within runs of that length, it is tied."
-    pub record TwoReached : Type 0 where
-      pub size : ℕ
-      pub within : size ≤ p .limit
-      pub least : Least size
-      pub start₁ : ℕ
-      pub start₂ : ℕ
-      pub first : List ℕ
-      pub second : List ℕ
-      pub reached₁ : Reached start₁ size first
-      pub reached₂ : Reached start₂ size second
-      pub differ : first ≢ second
-
-    -- mended: "Otherwise the codeword is written .. and the result is s and f; a clean block is written too and gives 0 and 0."
-    pub record OneReached (s f : ℕ) (c : List ℕ) : Type 0 where
-      pub within : f ≤ p .limit
-      pub reached : Reached s f c
-      pub least : Least f
-      pub others : (s′ f′ : ℕ) (c′ : List ℕ) → Reached s′ f′ c′ → c′ ≢ c → f < f′
-      pub clean : c ≡ y → (s ≡ 0) × (f ≡ 0)
-
--- 1. B4: a written block holds its message from cell r on, is a codeword, and no other codeword holds that message
-pub record WrittenBlock (p : Profile) (m : List ℕ) : Type 0 where
-  pub word : Word p (encode (p .b) (p .r) m)
-  pub message : drop (p .r) (encode (p .b) (p .r) m) ≡ m
-  pub only : (c : List ℕ) → Word p c → drop (p .r) c ≡ m → c ≡ encode (p .b) (p .r) m
+-- a written block holds its message from cell r on, is a codeword, and no other codeword holds that message
+pub record WrittenBlock (p : Profile) (m out : List ℕ) : Type 0 where
+  pub accepted : writtenNumber (writeAnswer p m out) ≡ 0
+  pub word : Word p (writeLeaves p m out)
+  pub message : drop (p .r) (writeLeaves p m out) ≡ m
+  pub only : (c : List ℕ) → Word p c → drop (p .r) c ≡ m → c ≡ writeLeaves p m out
 
 abbrev pub WritesCodeword : Type 0
-WritesCodeword = (p : Profile) (m : List ℕ) → InRange p → length m ≡ messageLength p → Bytes m → WrittenBlock p m
+WritesCodeword = (p : Profile) (m out : List ℕ) → InRange p → length m ≡ messageLength p → Bytes m → length out ≡ p .n → WrittenBlock p m out
 
--- 2. B5: called clean exactly if all syndromes are zero, which is exactly when it is a codeword
+-- ---- 2. B5: the checker
+
+-- "called clean exactly if all its syndromes are zero", which is exactly when it is a codeword; the flag is 1, and else 0
+pub record CalledClean (p : Profile) (y : List ℕ) : Type 0 where
+  pub accepted : checkedNumber (checkAnswer p y) ≡ 0
+  pub syndromes : (checkedClean (checkAnswer p y) ≡ 1) ↔ ((i : ℕ) → i < p .r → syndrome (p .b) i y ≡ 0)
+  pub codeword : (checkedClean (checkAnswer p y) ≡ 1) ↔ Word p y
+  pub else : checkedClean (checkAnswer p y) ≢ 1 → checkedClean (checkAnswer p y) ≡ 0
+
 abbrev pub CleanIff : Type 0
-CleanIff = (p : Profile) (y : List ℕ) → InRange p → Cells p y
-    → ((isClean (p .b) (p .r) y ≡ true) ↔ Word p y) × (Word p y ↔ ((i : ℕ) → i < p .r → syndrome (p .b) i y ≡ 0))
+CleanIff = (p : Profile) (y : List ℕ) → InRange p → Cells p y → CalledClean p y
 
--- 3. B6, B9
+-- ---- 3 to 5. B6 to B9: the corrector
+
+-- n read cells, and "a second lent buffer of n bytes", whatever it held
+pub record LentBlock (p : Profile) (y out : List ℕ) : Type 0 where
+  pub cells : Cells p y
+  pub second : length out ≡ p .n
+
+-- 3 torn
 abbrev pub UncorrectableIff : Type 0
-UncorrectableIff = (p : Profile) (y : List ℕ) → InRange p → Cells p y → (verdict p y ≡ Uncorrectable) ↔ NoneReached p y
+UncorrectableIff = (p : Profile) (y out : List ℕ) → InRange p → LentBlock p y out → (verdictNumber (correctAnswer p y out) ≡ 3) ↔ NoneReached p y
 
--- 4. B7, B9
+-- 4 tied
 abbrev pub AmbiguousIff : Type 0
-AmbiguousIff = (p : Profile) (y : List ℕ) → InRange p → Cells p y → (verdict p y ≡ Ambiguous) ↔ TwoReached p y
+AmbiguousIff = (p : Profile) (y out : List ℕ) → InRange p → LentBlock p y out → (verdictNumber (correctAnswer p y out) ≡ 4) ↔ TwoReached p y
 
--- 5. B8, B9: the start, the length and the codeword that the corrector gives are the only ones of which these facts hold
+-- accepted, with the result s and f and the codeword c in the second buffer
+pub record Corrects (p : Profile) (y out : List ℕ) (s f : ℕ) (c : List ℕ) : Type 0 where
+  pub accepted : verdictNumber (correctAnswer p y out) ≡ 0
+  pub start : verdictStart (correctAnswer p y out) ≡ s
+  pub size : verdictLength (correctAnswer p y out) ≡ f
+  pub leaves : correctLeaves p y out ≡ c
+
+-- mended or clean: the start, the length and the codeword that the corrector gives are the only ones of which these facts hold
 abbrev pub CorrectedIff : Type 0
-CorrectedIff = (p : Profile) (y : List ℕ) (s f : ℕ) (c : List ℕ) → InRange p → Cells p y
-    → ((verdict p y ≡ Corrected s f) × (corrected p y ≡ c)) ↔ OneReached p y s f c
+CorrectedIff = (p : Profile) (y out : List ℕ) (s f : ℕ) (c : List ℕ) → InRange p → LentBlock p y out → Corrects p y out s f c ↔ OneReached p y s f c
 
--- 6. exactly one of the three holds
-pub record OneOfThree (p : Profile) (y : List ℕ) : Type 0 where
-  pub some : NoneReached p y ⊎ (TwoReached p y ⊎ ((s f : ℕ) × (c : List ℕ) × OneReached p y s f c))
-  pub none-two : NoneReached p y → TwoReached p y → ⊥
-  pub none-one : (s f : ℕ) (c : List ℕ) → NoneReached p y → OneReached p y s f c → ⊥
-  pub two-one : (s f : ℕ) (c : List ℕ) → TwoReached p y → OneReached p y s f c → ⊥
+-- ---- 6. a block is torn, tied or mended, and one of these only
 
 abbrev pub ExactlyOne : Type 0
 ExactlyOne = (p : Profile) (y : List ℕ) → InRange p → Cells p y → OneOfThree p y
 
--- B10: the answer reads n, r, b and L of the profile, and not the depth
-abbrev pub DepthFree : Type 0
-DepthFree = (p q : Profile) (y : List ℕ) → p .n ≡ q .n → p .r ≡ q .r → p .b ≡ q .b → p .limit ≡ q .limit
-    → (verdict p y ≡ verdict q y) × (corrected p y ≡ corrected q y)
+-- ---- 7. where L ≥ h, a codeword within a run of at most h cells is the one to which the block is corrected
 
--- 7. where L ≥ h, a codeword within a run of at most h cells is the one to which the block is corrected
 abbrev pub HalfPromise : Type 0
-HalfPromise = (p : Profile) (y : List ℕ) (s f : ℕ) (c : List ℕ) → InRange p → Cells p y → half p ≤ p .limit → f ≤ half p → Reached p y s f c
-    → ((a e : ℕ) × (verdict p y ≡ Corrected a e)) × (corrected p y ≡ c)
+HalfPromise = (p : Profile) (y out : List ℕ) (s f : ℕ) (c : List ℕ) → InRange p → LentBlock p y out → half p ≤ p .limit → f ≤ half p → Reached p y s f c
+    → (verdictNumber (correctAnswer p y out) ≡ 0) × (correctLeaves p y out ≡ c)
+
+-- ---- 8. B10: "depend on its own cells and on n, r, b, L only", and so not on the depth, once it is in range
+
+abbrev pub DepthFree : Type 0
+DepthFree = (p q : Profile) (y out : List ℕ) → InRange p → InRange q → p .n ≡ q .n → p .r ≡ q .r → p .b ≡ q .b → p .limit ≡ q .limit
+    → (correctAnswer p y out ≡ correctAnswer q y out) × (correctLeaves p y out ≡ correctLeaves q y out)
+
+-- ---- 9. E3, E4: every refusal
+
+-- refusals 1 and 2 of an entry on a block or a sheet that answers `number`: 1 exactly where a profile number is out of range, and 2 exactly where
+-- none is and a lent buffer has not its length; so 1 goes before 2, and 2 before the rest
+pub record EarlyRefusals (p : Profile) (Fits : Type 0) (number : ℕ) : Type 0 where
+  pub one : (number ≡ 1) ↔ (InRange p → ⊥)
+  pub two : (number ≡ 2) ↔ (InRange p × (Fits → ⊥))
+
+-- after a refusal the place is 0, "Every lent buffer is unchanged", and the other numbers are 0
+pub record WriteRefusals (p : Profile) (m out : List ℕ) : Type 0 where
+  pub early : EarlyRefusals p ((length m ≡ messageLength p) × (length out ≡ p .n)) (writtenNumber (writeAnswer p m out))
+  pub place : writtenPlace (writeAnswer p m out) ≡ 0
+  pub kept : writtenNumber (writeAnswer p m out) ≢ 0 → writeLeaves p m out ≡ out
+
+pub record CheckRefusals (p : Profile) (y : List ℕ) : Type 0 where
+  pub early : EarlyRefusals p (length y ≡ p .n) (checkedNumber (checkAnswer p y))
+  pub place : checkedPlace (checkAnswer p y) ≡ 0
+  pub flag : checkedNumber (checkAnswer p y) ≢ 0 → checkedClean (checkAnswer p y) ≡ 0
+
+-- the corrector's 3 and 4 included
+pub record CorrectRefusals (p : Profile) (y out : List ℕ) : Type 0 where
+  pub early : EarlyRefusals p ((length y ≡ p .n) × (length out ≡ p .n)) (verdictNumber (correctAnswer p y out))
+  pub place : verdictPlace (correctAnswer p y out) ≡ 0
+  pub kept : verdictNumber (correctAnswer p y out) ≢ 0 → correctLeaves p y out ≡ out
+  pub run : verdictNumber (correctAnswer p y out) ≢ 0 → (verdictStart (correctAnswer p y out) ≡ 0) × (verdictLength (correctAnswer p y out) ≡ 0)
+
+pub record BlockRefusals (p : Profile) : Type 0 where
+  pub writes : (m out : List ℕ) → WriteRefusals p m out
+  pub checks : (y : List ℕ) → CheckRefusals p y
+  pub corrects : (y out : List ℕ) → CorrectRefusals p y out

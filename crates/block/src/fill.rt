@@ -1,4 +1,4 @@
-// Laying a block's cells into a lent buffer: check cells below a message, and read cells with an error added to a part of them.
+// Laying a block's cells into a lent buffer: cells copied, check cells below a message, and read cells with an error added to a part of them.
 ghost use mathlib.Core.Path.{_≡_};
 ghost use mathlib.Core.List.{_++_};
 ghost use Prim.Native.Nat.{_+_, _≤_};
@@ -6,14 +6,26 @@ ghost use lib.ListN.{length, take};
 ghost use Rattle.code.specs.Poly.{padd};
 ghost use Rattle.code.specs.Run.{addedAt};
 
+// Copies all cells. The loop is the crate's own, so that must-fail edits can try a corrector and a writer that copy nothing, or zeros.
+pub(crate) fn copy_cells(from: &[u8], to: &mut [u8])
+    requires { ⌜ length (now to) ≡ length (now from) ⌝ }
+    ensures { λ _. ⌜ now (to .exit) ≡ now (from .entry) ⌝ }
+{
+    let mut i = 0;
+    while i < to.len() {
+        to[i] = from[i];
+        i += 1;
+    }
+}
+
 // The first r of the check cells, and the message above them.
 pub(crate) fn lay_out(r: usize, checks: [u8; 64], message: &[u8], cells: &mut [u8])
     requires { ⌜ r ≤ 64 ⌝ }
     requires { ⌜ length (now cells) ≡ r + length (now message) ⌝ }
     ensures { λ _. ⌜ now (cells .exit) ≡ take r checks ++ now (message .entry) ⌝ }
 {
-    bytes::copy(&checks[..r], &mut cells[..r]);
-    bytes::copy(message, &mut cells[r..]);
+    copy_cells(&checks[..r], &mut cells[..r]);
+    copy_cells(message, &mut cells[r..]);
 }
 
 // Adds the lowest cells of an error to a part of a block.
@@ -35,6 +47,6 @@ pub(crate) fn place(read: &[u8], error: [u8; 64], start: usize, size: usize, out
     ensures { λ _. ⌜ now (out .exit) ≡ addedAt start (take size error) (now (read .entry)) ⌝ }
 {
     let end = start + size;
-    bytes::copy(read, out);
+    copy_cells(read, out);
     add_error(error, &mut out[start..end]);
 }

@@ -10,11 +10,12 @@ ghost use Rattle.code.specs.Run.{ZeroFrom};
 ghost use Rattle.register.specs.Words.{cells};
 ghost use Rattle.register.specs.Register.{padTo};
 ghost use Rattle.block.specs.Profile.{InRange, inRange, messageLength, half};
-ghost use Rattle.block.specs.Block.{checkCells, isClean, verdict, filled, verdictNumber, verdictStart, verdictLength, writtenNumber, checkedNumber, writeAnswer, writeLeaves, checkAnswer, correctAnswer, correctLeaves};
+ghost use Rattle.block.specs.Block.{checkCells, isClean, verdict, filled, writeAnswer, writeLeaves, checkAnswer, correctAnswer, correctLeaves};
 ghost use Rattle.block.specs.Found.{generatorOnTop, improvedBy, Searched};
 use register::Register;
 
 mod fill;
+mod numbers;
 
 /// The five numbers of a profile: cells in a block (n), check cells (r), starting power (b), the longest run that may be
 /// corrected (L, `limit`), and blocks in a sheet (D, `depth`).
@@ -26,7 +27,8 @@ pub struct Profile {
     pub depth: usize,
 }
 
-/// What correcting a block answers. Document 01 calls them misprint, wrong frame, torn, tied, and mended (or clean).
+/// What correcting a block answers. Document 01 calls the cases misprint, wrong frame, torn, tied, and mended (or clean); `length` cells
+/// from `start` on are "the result s and f".
 pub enum Verdict {
     BadProfile,
     WrongLength,
@@ -35,14 +37,15 @@ pub enum Verdict {
     Corrected { start: usize, length: usize },
 }
 
-/// What writing a block answers.
+/// What writing a block or a sheet answers: misprint, wrong frame, or that it is written.
 pub enum Written {
     BadProfile,
     WrongLength,
     Done,
 }
 
-/// What checking a block answers.
+/// What checking a block answers: misprint, wrong frame, clean ("called clean exactly if all its syndromes are zero"), or not clean, which is
+/// no refusal.
 pub enum Checked {
     BadProfile,
     WrongLength,
@@ -105,73 +108,6 @@ impl Profile {
             return false;
         }
         true
-    }
-}
-
-// ---- answers as numbers
-
-/// Document 01's number of a verdict: 1 to 4, or 0 for a corrected block.
-pub fn verdict_number(v: Verdict) -> usize
-    ensures { λ r. ⌜ r ≡ verdictNumber v ⌝ }
-{
-    match v {
-        Verdict::BadProfile => 1,
-        Verdict::WrongLength => 2,
-        Verdict::Uncorrectable => 3,
-        Verdict::Ambiguous => 4,
-        Verdict::Corrected {
-            start: _,
-            length: _,
-        } => 0,
-    }
-}
-
-/// The start of a corrected block's run; 0 beside a refusal.
-pub fn verdict_start(v: Verdict) -> usize
-    ensures { λ r. ⌜ r ≡ verdictStart v ⌝ }
-{
-    match v {
-        Verdict::Corrected { start, length: _ } => start,
-        Verdict::BadProfile => 0,
-        Verdict::WrongLength => 0,
-        Verdict::Uncorrectable => 0,
-        Verdict::Ambiguous => 0,
-    }
-}
-
-/// The length of a corrected block's run; 0 beside a refusal.
-pub fn verdict_length(v: Verdict) -> usize
-    ensures { λ r. ⌜ r ≡ verdictLength v ⌝ }
-{
-    match v {
-        Verdict::Corrected { start: _, length } => length,
-        Verdict::BadProfile => 0,
-        Verdict::WrongLength => 0,
-        Verdict::Uncorrectable => 0,
-        Verdict::Ambiguous => 0,
-    }
-}
-
-/// 1, 2, or 0 for a block that was written.
-pub fn written_number(w: Written) -> usize
-    ensures { λ r. ⌜ r ≡ writtenNumber w ⌝ }
-{
-    match w {
-        Written::BadProfile => 1,
-        Written::WrongLength => 2,
-        Written::Done => 0,
-    }
-}
-
-/// 1, 2, or 0 for a block that was checked, clean or not.
-pub fn checked_number(c: Checked) -> usize
-    ensures { λ r. ⌜ r ≡ checkedNumber c ⌝ }
-{
-    match c {
-        Checked::BadProfile => 1,
-        Checked::WrongLength => 2,
-        Checked::Clean => 0,
-        Checked::NotClean => 0,
     }
 }
 
@@ -366,7 +302,7 @@ pub fn correct(p: Profile, read: &[u8], out: &mut [u8]) -> Verdict
     let g = generator_of(p);
     let rest = remainder_of(p, g, read);
     if register::is_zero(rest) {
-        bytes::copy(read, out);
+        fill::copy_cells(read, out);
         return Verdict::Corrected {
             start: 0,
             length: 0,

@@ -14,14 +14,14 @@ same-answers written back e = record { part = λ n. ap (asked n) e; companion = 
 -- from the promise, whoever proves it
 module _ (promise : SheetPromise) where
   reads-as-plots : WrittenReadsAsPlots
-  reads-as-plots p m ps end scratch out v h l e =
-      let r = promise p m v h .back scratch out l in
-      (r .0, ap reading (r .1) ∙ e)
+  reads-as-plots p m cells ps end scratch out v h c l e =
+      let r = promise p m cells v h c .back scratch out l in
+      (r .number, r .count, ap reading (r .payload) ∙ e)
 
   same-after : SameAfterDamage
-  same-after p m sheet scratch out v half h d l =
-      let r = promise p m v h .damaged sheet half d scratch out l in
-      ((_, r .0), same-answers m (readPayload p sheet scratch out) (r .1))
+  same-after p m cells sheet scratch out v half h c d l =
+      let r = promise p m cells v h c .damaged sheet scratch out half d l in
+      (r .number, same-answers m (readPayload p sheet scratch out) (r .payload))
 
 pub written-reads-as-plots : WrittenReadsAsPlots
 written-reads-as-plots = reads-as-plots sheet-promise

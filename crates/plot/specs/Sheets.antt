@@ -2,9 +2,9 @@
 -- below it, so it would stand if the block search were replaced. proofs/Sheets.antt proves each from that promise.
 use mathlib.Core.Path.{_≡_}
 use mathlib.Core.List.{List}
-use Prim.Native.Nat.{ℕ, _≤_}
-use Rattle.sheet.specs.Promise.{Profile, InRange, half, Payload, Lent, writtenSheet, readAnswer, readPayload, Damaged}
-use Rattle.sheet.specs.declared.Reading.the-variants.{Accepted}
+use Prim.Native.Nat.{ℕ, _*_, _≤_}
+use lib.ListN.{length}
+use Rattle.sheet.specs.Promise.{Profile, InRange, half, Payload, Lent, writeSheetLeaves, readAnswer, readPayload, readingNumber, readingChanged, Damaged}
 use Rattle.plot.specs.Layout.{Plot}
 use Rattle.plot.specs.Grammar.{Plots, reading}
 use Rattle.plot.specs.Answers.{located, asked}
@@ -14,16 +14,19 @@ pub record SameAnswers (written back : List ℕ) : Type 0 where
   pub part : (n : ℕ) → asked n back ≡ asked n written
   pub companion : (n : ℕ) → located n back ≡ located n written
 
--- R7: a written sheet reads back as its plots
+-- R7: "A written sheet reads back as its plots": the sheet that the writer leaves in the buffer `cells` is accepted with no block changed, and the payload
+-- that comes back holds the plots of the one that was written
 abbrev pub WrittenReadsAsPlots : Type 0
 WrittenReadsAsPlots =
-    (p : Profile) (m : List ℕ) (ps : List Plot) (end : ℕ) (scratch out : List ℕ) → InRange p → Payload p m → Lent p (writtenSheet p m) scratch out
-    → reading m ≡ Plots ps end
-    → (readAnswer p (writtenSheet p m) scratch out ≡ Accepted 0) × (reading (readPayload p (writtenSheet p m) scratch out) ≡ Plots ps end)
+    (p : Profile) (m cells : List ℕ) (ps : List Plot) (end : ℕ) (scratch out : List ℕ) → InRange p → Payload p m → length cells ≡ p .depth * p .n
+    → Lent p (writeSheetLeaves p m cells) scratch out → reading m ≡ Plots ps end
+    → (readingNumber (readAnswer p (writeSheetLeaves p m cells) scratch out) ≡ 0) × (readingChanged (readAnswer p (writeSheetLeaves p m cells) scratch out) ≡ 0)
+    × (reading (readPayload p (writeSheetLeaves p m cells) scratch out) ≡ Plots ps end)
 
 -- R8: where L ≥ h, whatever bytes stand in one run of at most D × h cells of a written sheet, the reader accepts it, and asking for any plot on
 -- what came back gives the same record or the same refusal as on what was written
 abbrev pub SameAfterDamage : Type 0
 SameAfterDamage =
-    (p : Profile) (m sheet scratch out : List ℕ) → InRange p → half p ≤ p .limit → Payload p m → Damaged p m sheet → Lent p sheet scratch out
-    → ((changed : ℕ) × (readAnswer p sheet scratch out ≡ Accepted changed)) × SameAnswers m (readPayload p sheet scratch out)
+    (p : Profile) (m cells sheet scratch out : List ℕ) → InRange p → half p ≤ p .limit → Payload p m → length cells ≡ p .depth * p .n
+    → Damaged p (writeSheetLeaves p m cells) sheet → Lent p sheet scratch out
+    → (readingNumber (readAnswer p sheet scratch out) ≡ 0) × SameAnswers m (readPayload p sheet scratch out)

@@ -1,5 +1,5 @@
 -- What an accepted sheet gives: a payload of D × k bytes, and no more changed blocks than D. Both follow from the reader's theorems.
-use mathlib.Core.Path.{_≡_, sym, _∙_}
+use mathlib.Core.Path.{_≡_, sym, ap, _∙_}
 use mathlib.Core.List.{List}
 use Prim.Native.Nat.{ℕ, _≤_, zero-le}
 use native.Mathlib.Omega.{arith}
@@ -11,6 +11,7 @@ use Rattle.block.specs.Profile.{InRange, messageLength}
 use Rattle.block.specs.declared.Profile.{Profile}
 use Rattle.sheet.specs.declared.Reading.the-variants.{Accepted}
 use Rattle.sheet.specs.Sheet.{readBlock, differ, readAnswer, readPayload}
+use Rattle.sheet.specs.Numbers.{readingNumber, readingChanged}
 use Rattle.sheet.specs.Buffers.{Payload, Lent, differing}
 use Rattle.sheet.specs.Theorems.{AllWords, Accepts, Results}
 use Rattle.sheet.proofs.Apart.{joined-length, joined-bytes}
@@ -19,14 +20,17 @@ use Rattle.sheet.proofs.Theorems.{read-results}
 
 module _ (p : Profile) (sheet scratch out : List ℕ) (v : InRange p) (h : Lent p sheet scratch out) (changed : ℕ)
     (q : readAnswer p sheet scratch out ≡ Accepted changed) where
+  number : readingNumber (readAnswer p sheet scratch out) ≡ 0
+  number = ap readingNumber q
+
   results : Results p sheet scratch out
   results = read-results p sheet scratch out v h
 
   abbrev words : ℕ → List ℕ
-  words = results .accepted changed q .0
+  words = results .accepted .0 number .0
 
   all : AllWords p sheet words
-  all = results .accepted changed q .1
+  all = results .accepted .0 number .1
 
   accepts : Accepts p sheet scratch out words
   accepts = results .accepts words all
@@ -43,8 +47,7 @@ module _ (p : Profile) (sheet scratch out : List ℕ) (v : InRange p) (h : Lent 
 
   pub changed-most : changed ≤ p .depth
   changed-most =
-      let e : Accepted (differing (p .depth) words (readBlock p sheet)) ≡ Accepted changed = sym (accepts .answer) ∙ q in
-      let n : differing (p .depth) words (readBlock p sheet) ≡ changed = cc in
+      let n : differing (p .depth) words (readBlock p sheet) ≡ changed = sym (accepts .changed) ∙ ap readingChanged q in
       let m : differing (p .depth) words (readBlock p sheet) ≤ p .depth =
       small-sum (p .depth) (λ (d : ℕ). pick (differ (words d) (readBlock p sheet d)) 1 0) (λ d l. pick-of (λ (n : ℕ). n ≤ 1) (differ (words d) (readBlock p sheet d)) 1 0 (omega arith) zero-le) in
       omega arith

@@ -1,5 +1,6 @@
--- The entries' cases: the lengths' tests, and what each case answers and leaves. A profile in range has at most 16 × 255 cells in a sheet.
-use mathlib.Core.Path.{_≡_, sym, ap, _∙_}
+-- The entries' cases: the lengths' tests, and what each case answers and leaves, by the laws of `refusing`. A profile in range has at most 16 × 255 cells in
+-- a sheet.
+use mathlib.Core.Path.{_≡_, refl, sym, ap, _∙_}
 use mathlib.Core.Bool.{true, false}
 use mathlib.Core.List.{List}
 use Prim.Native.Nat.{ℕ, _+_, _*_, _-_, _≤_}
@@ -8,16 +9,17 @@ use native.Mathlib.Omega.{arith}
 use lib.Dec.{eqb}
 use lib.ListN.{length, replicate}
 use borrow.Author.Tests.{eq-eqb, ne-eqb, eqb-true}
-use Rattle.lists.specs.Choice.{both}
+use Rattle.lists.specs.Choice.{pick, both}
 use Rattle.lists.proofs.Test.{both-true}
 use Rattle.block.specs.Profile.{InRange, inRange, messageLength}
-use Rattle.block.specs.Block.{refusing}
 use Rattle.block.specs.declared.Profile.{Profile}
 use Rattle.block.specs.declared.Written.the-variants as writes
+use Rattle.block.proofs.Ranges.{in-range}
+use Rattle.block.proofs.Refusing.{refuse-one, refuse-two, accept}
 use Rattle.sheet.specs.declared.Refusal.the-variants.{BadProfile, WrongLength}
 use Rattle.sheet.specs.declared.Reading.{Reading}
 use Rattle.sheet.specs.declared.Reading.the-variants.{Refused}
-use Rattle.sheet.specs.Sheet.{joined, codeword, writtenSheet, writeFits, writeAnswer, writeLeaves, isAccepted, sheetPayload, readFits, readAnswer, readScratch, readPayload}
+use Rattle.sheet.specs.Sheet.{joined, codeword, writtenSheet, writeSheetFits, writeSheetAnswer, writeSheetLeaves, isAccepted, sheetAnswer, sheetPayload, readFits, readAnswer, readScratch, readPayload}
 use Rattle.sheet.specs.Steps.{CorrectedAll, messageAt}
 use Rattle.sheet.proofs.Apart.{messages-of-rows}
 
@@ -33,34 +35,44 @@ module _ (p : Profile) (v : InRange p) where
 -- ---- the writer
 
 module _ (p : Profile) (payload sheet : ℕ) where
-  pub write-payload : (payload ≡ p .depth * messageLength p → ⊥) → false ≡ writeFits p payload sheet
-  unfolding writeFits
+  pub write-payload : (payload ≡ p .depth * messageLength p → ⊥) → false ≡ writeSheetFits p payload sheet
+  unfolding writeSheetFits
   write-payload n = rw (ne-eqb _ _ n)
 
-  pub write-sheet : payload ≡ p .depth * messageLength p → eqb sheet (p .depth * p .n) ≡ writeFits p payload sheet
-  unfolding writeFits
+  pub write-sheet : payload ≡ p .depth * messageLength p → eqb sheet (p .depth * p .n) ≡ writeSheetFits p payload sheet
+  unfolding writeSheetFits
   write-sheet e = rw (eq-eqb _ _ e)
 
-  pub write-lengths : writeFits p payload sheet ≡ true → (payload ≡ p .depth * messageLength p) × (sheet ≡ p .depth * p .n)
-  unfolding writeFits
+  pub write-fits : payload ≡ p .depth * messageLength p → sheet ≡ p .depth * p .n → writeSheetFits p payload sheet ≡ true
+  write-fits e f = sym (write-sheet e) ∙ eq-eqb _ _ f
+
+  pub write-lengths : writeSheetFits p payload sheet ≡ true → (payload ≡ p .depth * messageLength p) × (sheet ≡ p .depth * p .n)
+  unfolding writeSheetFits
   write-lengths t =
       let a = both-true (eqb payload (p .depth * messageLength p)) (eqb sheet (p .depth * p .n)) t in
       (eqb-true _ _ (a .0), eqb-true _ _ (a .1))
 
 module _ (p : Profile) (payload sheet : List ℕ) where
-  pub write-bad : inRange p ≡ false → (writes.BadProfile ≡ writeAnswer p payload sheet) × (sheet ≡ writeLeaves p payload sheet)
-  unfolding writeAnswer writeLeaves refusing
-  write-bad t = (rw t, rw t)
+  pub write-bad : inRange p ≡ false → (writes.BadProfile ≡ writeSheetAnswer p payload sheet) × (sheet ≡ writeSheetLeaves p payload sheet)
+  unfolding writeSheetAnswer writeSheetLeaves
+  write-bad t = (refuse-one p _ _ _ _ t, refuse-one p _ _ _ _ t)
 
   module _ (t : inRange p ≡ true) where
-    pub write-wrong : writeFits p (length payload) (length sheet) ≡ false → (writes.WrongLength ≡ writeAnswer p payload sheet) × (sheet ≡ writeLeaves p payload sheet)
-    unfolding writeAnswer writeLeaves refusing
-    write-wrong f = (rw (t, f), rw (t, f))
+    pub write-wrong : writeSheetFits p (length payload) (length sheet) ≡ false → (writes.WrongLength ≡ writeSheetAnswer p payload sheet) × (sheet ≡ writeSheetLeaves p payload sheet)
+    unfolding writeSheetAnswer writeSheetLeaves
+    write-wrong f = (refuse-two p _ _ _ _ t f, refuse-two p _ _ _ _ t f)
 
-    pub write-done : writeFits p (length payload) (length sheet) ≡ true → (s : List ℕ) → s ≡ writtenSheet p payload
-        → (writes.Done ≡ writeAnswer p payload sheet) × (s ≡ writeLeaves p payload sheet)
-    unfolding writeAnswer writeLeaves refusing
-    write-done f s e = (rw (t, f), rw (t, f) e)
+    pub write-done : writeSheetFits p (length payload) (length sheet) ≡ true → (s : List ℕ) → s ≡ writtenSheet p payload
+        → (writes.Done ≡ writeSheetAnswer p payload sheet) × (s ≡ writeSheetLeaves p payload sheet)
+    unfolding writeSheetAnswer writeSheetLeaves
+    write-done f s e = (accept p _ _ _ _ t f, e ∙ accept p _ _ _ _ t f)
+
+-- profile and lengths right
+pub write-rest : (p : Profile) (payload sheet : List ℕ) → InRange p → length payload ≡ p .depth * messageLength p → length sheet ≡ p .depth * p .n
+    → (writeSheetAnswer p payload sheet ≡ writes.Done) × (writeSheetLeaves p payload sheet ≡ writtenSheet p payload)
+write-rest p payload sheet v e f =
+    let q = write-done p payload sheet (in-range p .1 v) (write-fits p (length payload) (length sheet) e f) (writtenSheet p payload) refl in
+    (sym (q .0), sym (q .1))
 
 -- ---- the reader
 
@@ -77,6 +89,9 @@ module _ (p : Profile) (sheet scratch payload : ℕ) where
   unfolding readFits
   read-payload e q = rw (eq-eqb _ _ e, eq-eqb _ _ q)
 
+  pub read-fits : sheet ≡ p .depth * p .n → scratch ≡ p .depth * p .n → payload ≡ p .depth * messageLength p → readFits p sheet scratch payload ≡ true
+  read-fits e q f = sym (read-payload e q) ∙ eq-eqb _ _ f
+
   pub read-lengths : readFits p sheet scratch payload ≡ true → (sheet ≡ p .depth * p .n) × (scratch ≡ p .depth * p .n) × (payload ≡ p .depth * messageLength p)
   unfolding readFits
   read-lengths t =
@@ -90,29 +105,41 @@ module _ (p : Profile) (sheet scratch out : List ℕ) where
   Read r s m = (r ≡ readAnswer p sheet scratch out) × ((s ≡ readScratch p sheet scratch out) × (m ≡ readPayload p sheet scratch out))
 
   pub read-bad : inRange p ≡ false → Read (Refused BadProfile) scratch out
-  unfolding readAnswer readScratch readPayload refusing
-  read-bad t = (rw t, (rw t, rw t))
+  unfolding readAnswer readScratch readPayload
+  read-bad t = (refuse-one p _ _ _ _ t, (refuse-one p _ _ _ _ t, refuse-one p _ _ _ _ t))
 
   module _ (t : inRange p ≡ true) where
     pub read-wrong : readFits p (length sheet) (length scratch) (length out) ≡ false → Read (Refused WrongLength) scratch out
-    unfolding readAnswer readScratch readPayload refusing
-    read-wrong f = (rw (t, f), (rw (t, f), rw (t, f)))
+    unfolding readAnswer readScratch readPayload
+    read-wrong f = (refuse-two p _ _ _ _ t f, (refuse-two p _ _ _ _ t f, refuse-two p _ _ _ _ t f))
 
-    module _ (f : readFits p (length sheet) (length scratch) (length out) ≡ true) (r : Reading) (s : List ℕ) (h : CorrectedAll p sheet r s) where
-      pub read-refused : isAccepted r ≡ false → (z : List ℕ) → z ≡ replicate (length scratch) 0 → Read r z out
-      unfolding readAnswer readScratch readPayload refusing
-      read-refused a z e = (rw (t, f) (h .answer), (rw (t, f) e, rw (t, f, ap isAccepted (sym (h .answer)) ∙ a)))
+    module _ (f : readFits p (length sheet) (length scratch) (length out) ≡ true) where
+      -- past the refusals 1 and 2
+      pub read-past : Read (sheetAnswer p sheet) (replicate (length scratch) 0) (pick (isAccepted (sheetAnswer p sheet)) (sheetPayload p sheet) out)
+      unfolding readAnswer readScratch readPayload
+      read-past = (accept p _ _ _ _ t f, (accept p _ _ _ _ t f, accept p _ _ _ _ t f))
 
-      pub read-accepted : InRange p → isAccepted r ≡ true → (z m : List ℕ) → z ≡ replicate (length scratch) 0
-          → m ≡ joined (p .depth) (messageLength p) (messageAt (p .n) (p .r) (messageLength p) s) → Read r z m
-      unfolding readAnswer readScratch readPayload sheetPayload refusing
-      read-accepted v a z m e q =
-          let k : p .r + messageLength p ≡ p .n = omega (arith, v .r-below) in (
-            rw (t, f) (h .answer),
-            (
-              rw (t, f) e,
-              rw (t, f, ap isAccepted (sym (h .answer)) ∙ a)
-                  (q ∙ ap (λ (b : List ℕ). joined (p .depth) (messageLength p) (messageAt (p .n) (p .r) (messageLength p) b)) (h .words a)
-                  ∙ messages-of-rows (p .depth) (p .n) (p .r) (messageLength p) (codeword p sheet) k),
-            ),
-          )
+      module _ (r : Reading) (s : List ℕ) (h : CorrectedAll p sheet r s) where
+        pub read-refused : isAccepted r ≡ false → (z : List ℕ) → z ≡ replicate (length scratch) 0 → Read r z out
+        read-refused a z e =
+            let o : out ≡ pick (isAccepted (sheetAnswer p sheet)) (sheetPayload p sheet) out = rw (ap isAccepted (sym (h .answer)) ∙ a) in
+            (h .answer ∙ read-past .0, (e ∙ read-past .1 .0, o ∙ read-past .1 .1))
+
+        pub read-accepted : InRange p → isAccepted r ≡ true → (z m : List ℕ) → z ≡ replicate (length scratch) 0
+            → m ≡ joined (p .depth) (messageLength p) (messageAt (p .n) (p .r) (messageLength p) s) → Read r z m
+        unfolding sheetPayload
+        read-accepted v a z m e q =
+            let k : p .r + messageLength p ≡ p .n = omega (arith, v .r-below) in
+            let o : m ≡ pick (isAccepted (sheetAnswer p sheet)) (sheetPayload p sheet) out =
+            rw (ap isAccepted (sym (h .answer)) ∙ a)
+            (q ∙ ap (λ (b : List ℕ). joined (p .depth) (messageLength p) (messageAt (p .n) (p .r) (messageLength p) b)) (h .words a)
+            ∙ messages-of-rows (p .depth) (p .n) (p .r) (messageLength p) (codeword p sheet) k) in
+            (h .answer ∙ read-past .0, (e ∙ read-past .1 .0, o ∙ read-past .1 .1))
+
+-- profile and lengths right
+pub read-rest : (p : Profile) (sheet scratch out : List ℕ) → InRange p → length sheet ≡ p .depth * p .n → length scratch ≡ p .depth * p .n → length out ≡ p .depth * messageLength p
+    → (readAnswer p sheet scratch out ≡ sheetAnswer p sheet) × (readScratch p sheet scratch out ≡ replicate (length scratch) 0)
+    × (readPayload p sheet scratch out ≡ pick (isAccepted (sheetAnswer p sheet)) (sheetPayload p sheet) out)
+read-rest p sheet scratch out v e f g =
+    let q = read-past p sheet scratch out (in-range p .1 v) (read-fits p (length sheet) (length scratch) (length out) e f g) in
+    (sym (q .0), sym (q .1 .0), sym (q .1 .1))

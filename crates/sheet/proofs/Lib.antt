@@ -4,10 +4,10 @@ pub mod Apart
 pub mod Verdicts
 pub mod Reader
 pub mod Theorems
+pub mod Refusals
 pub mod Runs
 pub mod Promise
 pub mod Examples
 pub mod Entry
-pub mod Blocks
 pub mod Steps
 pub mod Accepted

@@ -11,21 +11,19 @@ use borrow.Author.Tests.{eq-eqb}
 use Rattle.lists.specs.Choice.{pick}
 use Rattle.code.specs.Run.{Outside}
 use Rattle.block.specs.Profile.{InRange, messageLength, half}
-use Rattle.block.specs.Block.{refusing}
-use Rattle.block.specs.Promises.{Cells, Word, Reached, OneReached}
+use Rattle.block.specs.Runs.{Cells, Word, Reached, OneReached}
 use Rattle.block.specs.declared.Profile.{Profile}
-use Rattle.block.proofs.Ranges.{in-range}
-use Rattle.block.proofs.Promises.{exactly-one, corrected-iff, half-promise}
-use Rattle.sheet.specs.declared.Reading.the-variants.{Accepted}
-use Rattle.sheet.specs.Sheet.{messageOf, writtenBlock, writtenSheet, writeFits, writeAnswer, writeLeaves, readBlock, differ}
-use Rattle.sheet.specs.Buffers.{Payload, differing}
+use Rattle.block.proofs.Shortest.{empty-run}
+use Rattle.block.proofs.Verdicts.{exactly-one, verdict-one, verdict-half}
+use Rattle.sheet.specs.Sheet.{messageOf, writtenBlock, writtenSheet, writeSheetLeaves, readBlock, differ}
+use Rattle.sheet.specs.Buffers.{Payload, Lent, differing}
 use Rattle.sheet.specs.Theorems.{HasWord, AllWords}
-use Rattle.sheet.specs.Promise.{Writes, ReadsBack, Damaged, SheetPromise}
+use Rattle.sheet.specs.Promise.{ReadsBack, Damaged, Promised, SheetPromise}
 use Rattle.sheet.proofs.Places.{cell-inside}
 use Rattle.sheet.proofs.Apart.{block-cell, same-joined, joined-messages}
-use Rattle.sheet.proofs.Verdicts.{no-cell, differ-self}
+use Rattle.sheet.proofs.Verdicts.{differ-self}
 use Rattle.sheet.proofs.Reader.{same-sum, zero-sum}
-use Rattle.sheet.proofs.Theorems.{block-cells, written-word, written-message, written-block, written-sheet, all-words}
+use Rattle.sheet.proofs.Theorems.{block-cells, written-word, written-message, written-block, written-sheet, leaves-written, all-words}
 use Rattle.sheet.proofs.Runs as runs
 
 -- a codeword that was read is its own codeword
@@ -46,31 +44,28 @@ module _ (p : Profile) (y : List ℕ) (v : InRange p) (w : Word p y) where
       (exactly-one p y v (record { count = w .cells; bytes = w .bytes }) .some)
     where
       own : (s : ℕ) (c : List ℕ) → Reached p y s 0 c → c ≡ y
-      own s c r = no-cell (p .n) (p .r) (p .b) y s c (w .cells) r
+      own s c r = empty-run (p .n) (p .r) (p .b) y s c (w .cells) r
 
 module _ (p : Profile) (m : List ℕ) (v : InRange p) (h : Payload p m) where
   abbrev written : List ℕ
   written = writtenSheet p m
 
-  fits : (cells : List ℕ) → length cells ≡ p .depth * p .n → writeFits p (length m) (length cells) ≡ true
-  unfolding writeFits
-  fits cells e = rw (eq-eqb _ _ (h .count), eq-eqb _ _ e)
-
-  writes : Writes p m
-  unfolding writeAnswer writeLeaves refusing
-  writes cells e = (rw (in-range p .1 v, fits cells e), rw (in-range p .1 v, fits cells e))
-
   -- where each block has the written block as its codeword, the payload comes back
-  reads-back : (sheet : List ℕ) → AllWords p sheet (writtenBlock p m) → ReadsBack p m sheet (differing (p .depth) (readBlock p written) (readBlock p sheet))
-  reads-back sheet a scratch out l =
-      let q = all-words p sheet scratch out v l (writtenBlock p m) a in (
-        q .answer ∙ ap Accepted
-            (same-sum (p .depth) (λ (d : ℕ). pick (differ (writtenBlock p m d) (readBlock p sheet d)) 1 0) (λ (d : ℕ). pick (differ (readBlock p written d) (readBlock p sheet d)) 1 0)
-            (λ d k. ap (λ (x : List ℕ). pick (differ x (readBlock p sheet d)) 1 0) (sym (written-block p m v h d k)))),
-        q .payload
+  reads-back : (sheet scratch out : List ℕ) → AllWords p sheet (writtenBlock p m) → Lent p sheet scratch out
+      → ReadsBack p m sheet (differing (p .depth) (readBlock p written) (readBlock p sheet)) scratch out
+  reads-back sheet scratch out a l =
+      let q = all-words p sheet scratch out v l (writtenBlock p m) a in
+      record {
+        number = q .number;
+        count =
+            q .changed
+            ∙ same-sum (p .depth) (λ (d : ℕ). pick (differ (writtenBlock p m d) (readBlock p sheet d)) 1 0) (λ (d : ℕ). pick (differ (readBlock p written d) (readBlock p sheet d)) 1 0)
+            (λ d k. ap (λ (x : List ℕ). pick (differ x (readBlock p sheet d)) 1 0) (sym (written-block p m v h d k)));
+        payload =
+            q .payload
             ∙ same-joined (p .depth) (messageLength p) (λ (d : ℕ). drop (p .r) (writtenBlock p m d)) (messageOf (messageLength p) m) (λ d k. written-message p m v h d k)
-            ∙ joined-messages (p .depth) (messageLength p) m (h .count),
-      )
+            ∙ joined-messages (p .depth) (messageLength p) m (h .count);
+      }
 
   own-words : AllWords p written (writtenBlock p m)
   own-words d l =
@@ -80,7 +75,7 @@ module _ (p : Profile) (m : List ℕ) (v : InRange p) (h : Payload p m) where
   none-changed : differing (p .depth) (readBlock p written) (readBlock p written) ≡ 0
   none-changed = zero-sum (p .depth) (λ (d : ℕ). pick (differ (readBlock p written d) (readBlock p written d)) 1 0) (λ d l. rw (differ-self (readBlock p written d)))
 
-  module _ (sheet : List ℕ) (k : half p ≤ p .limit) (z : Damaged p m sheet) (d : ℕ) (l : d < p .depth) where
+  module _ (sheet : List ℕ) (k : half p ≤ p .limit) (z : Damaged p written sheet) (d : ℕ) (l : d < p .depth) where
     abbrev start : ℕ
     start = runs.first (p .depth) d l (z .start)
 
@@ -102,13 +97,25 @@ module _ (p : Profile) (m : List ℕ) (v : InRange p) (h : Payload p m) where
     damaged-word =
         let y : List ℕ = readBlock p sheet d in
         let c : Cells p y = block-cells p sheet d (z .cells .bytes) in
-        let q = half-promise p y start size (writtenBlock p m d) v c k (runs.few (p .depth) d l (z .start) (z .size) (half p) (z .short)) reached in
-        (q .0 .0, q .0 .1, corrected-iff p y (q .0 .0) (q .0 .1) (writtenBlock p m d) v c .0 (q .0 .2, q .1))
+        let q = verdict-half p y start size (writtenBlock p m d) v c k (runs.few (p .depth) d l (z .start) (z .size) (half p) (z .short)) reached in
+        (q .0 .0, q .0 .1, verdict-one p y (q .0 .0) (q .0 .1) (writtenBlock p m d) v c .0 (q .0 .2, q .1))
 
+-- of the sheet as the definitions write it
+module _ (p : Profile) (m : List ℕ) (v : InRange p) (h : Payload p m) where
+  back-unchanged : (scratch out : List ℕ) → Lent p (writtenSheet p m) scratch out → ReadsBack p m (writtenSheet p m) 0 scratch out
+  back-unchanged scratch out l =
+      subst (λ (k : ℕ). ReadsBack p m (writtenSheet p m) k scratch out) (none-changed p m v h) (reads-back p m v h (writtenSheet p m) scratch out (own-words p m v h) l)
+
+  back-damaged : (sheet scratch out : List ℕ) → half p ≤ p .limit → Damaged p (writtenSheet p m) sheet → Lent p sheet scratch out
+      → ReadsBack p m sheet (differing (p .depth) (readBlock p (writtenSheet p m)) (readBlock p sheet)) scratch out
+  back-damaged sheet scratch out k z l = reads-back p m v h sheet scratch out (damaged-word p m v h sheet k z) l
+
+-- and so of the sheet that the writer leaves, which is that one
 pub sheet-promise : SheetPromise
-sheet-promise p m v h = record {
-  writes = writes p m v h;
-  cells = written-sheet p m v h;
-  back = subst (ReadsBack p m (writtenSheet p m)) (none-changed p m v h) (reads-back p m v h (writtenSheet p m) (own-words p m v h));
-  damaged = λ sheet k z. reads-back p m v h sheet (damaged-word p m v h sheet k z);
-}
+sheet-promise p m cells v h c =
+    let e : writeSheetLeaves p m cells ≡ writtenSheet p m = leaves-written p m v h cells c in
+    record {
+      sheet = rw e (written-sheet p m v h);
+      back = rw e (back-unchanged p m v h);
+      damaged = rw e (back-damaged p m v h);
+    }

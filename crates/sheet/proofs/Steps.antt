@@ -2,57 +2,70 @@
 use mathlib.Core.Path.{_≡_, refl, sym, ap, ap₂, _∙_}
 use mathlib.Core.Logic.{_⊎_, ⊎-elim}
 use mathlib.Core.Bool.{true, false}
-use mathlib.Core.List.{List}
+use mathlib.Core.List.{List, _++_}
 use Prim.Native.Nat.{ℕ, suc, _+_, _*_, _-_, _≤_, _<_}
 use native.Mathlib.Nat.{eq-or-lt-of-le, not-suc-le-zero}
 use native.Mathlib.Numerals.{add-one}
 use native.Mathlib.Omega.{arith}
-use lib.ListN.{length, getD}
+use lib.ListN.{length, getD, take, drop}
+use lib.Seq.{drop-at}
+use borrow.Rule.Slice.PartMut.{midOf}
 use lib.Dec.{eqb}
-use borrow.Author.Tests.{eq-eqb, ne-eqb}
+use borrow.Author.Tests.{eq-eqb, ne-eqb, eqb-true}
+use Rattle.lists.proofs.Fill.{fill-all}
 use Rattle.lists.proofs.Test.{true-or-false, true-false}
 use Rattle.lists.specs.Bytes.{Bytes}
 use Rattle.block.specs.Profile.{InRange, messageLength}
-use Rattle.block.specs.Block.{encode, verdict, correctAnswer, correctLeaves, verdictLength}
+use Rattle.block.specs.Block.{encode, verdict, corrected, correctAnswer, correctLeaves}
+use Rattle.block.specs.Numbers.{verdictNumber, verdictStart, verdictLength}
 use Rattle.block.specs.declared.Profile.{Profile}
 use Rattle.block.specs.declared.Verdict.{Verdict}
-use Rattle.block.specs.declared.Verdict.the-variants as verdicts
+use Rattle.block.proofs.NumberLaws.{number-0}
+use Rattle.block.proofs.Answers.{block-answer, block-leaves}
 use Rattle.sheet.specs.declared.Refusal.the-variants.{Block}
 use Rattle.sheet.specs.declared.Reading.the-variants.{Refused, Accepted}
-use Rattle.sheet.specs.Sheet.{joined, blockOf, messageOf, writtenBlock, writtenSheet, readBlock, blockVerdict, codeword, isCorrected, changedAt, answerFrom, sheetAnswer}
+use Rattle.sheet.specs.Sheet.{joined, messageOf, writtenBlock, writtenSheet, readBlock, blockVerdict, codeword, isCorrected, changedAt, answerFrom, sheetAnswer}
 use Rattle.sheet.specs.Steps.{Laid, CorrectedInto, CorrectedAll, changedBy}
-use Rattle.sheet.proofs.Apart.{block-length, is-interleave}
-use Rattle.sheet.proofs.Blocks.{block-answer, block-leaves}
+use Rattle.sheet.proofs.Apart.{joined-length, taken, is-interleave}
 use Rattle.sheet.proofs.Verdicts.{changed-by-length}
 use Rattle.sheet.proofs.Reader.{answer-on, answer-stop, answer-end}
 use Rattle.sheet.proofs.Theorems.{block-cells}
 
 -- ---- reading
 
-module _ (p : Profile) (v : InRange p) (sheet : List ℕ) (d : ℕ) where
-  -- block d, gathered and corrected
-  pub corrected-into : (word gathered part left : List ℕ) (r : Verdict) → length word ≡ p .n → length part ≡ p .n
-      → gathered ≡ blockOf (p .depth) (length word) sheet d → r ≡ correctAnswer p gathered part → left ≡ correctLeaves p gathered part
-      → CorrectedInto p sheet d r left
-  unfolding blockVerdict codeword readBlock
-  corrected-into word gathered part left r e f g q t =
-      let y : List ℕ = blockOf (p .depth) (p .n) sheet d in
-      let s : gathered ≡ y = g ∙ ap (λ (m : ℕ). blockOf (p .depth) m sheet d) e in
-      let c : length y ≡ p .n = block-length (p .depth) (p .n) sheet d in
-      let a : r ≡ verdict p y = q ∙ ap (λ (z : List ℕ). correctAnswer p z part) s ∙ block-answer p v y part f c in
-      record {
-        answer = a;
-        word = λ k. t ∙ ap (λ (z : List ℕ). correctLeaves p z part) s ∙ block-leaves p v y part f c (ap isCorrected (sym a) ∙ k);
-      }
+-- the cells of a block, copied and corrected
+pub corrected-into : (p : Profile) (y word copied left : List ℕ) (r : Verdict) → InRange p → length y ≡ p .n → length word ≡ p .n
+    → copied ≡ take (length y) y ++ drop (length y) word → r ≡ correctAnswer p copied y → left ≡ correctLeaves p copied y → CorrectedInto p y r left
+corrected-into p y word copied left r v h e g q t =
+    let s : copied ≡ y = g ∙ fill-all (length y) y word (omega arith) (omega arith) in
+    let a : r ≡ verdict p y = q ∙ ap (λ (z : List ℕ). correctAnswer p z y) s ∙ block-answer p v y h y h in
+    record {
+      answer = a;
+      word = λ k. t ∙ ap (λ (z : List ℕ). correctLeaves p z y) s ∙ block-leaves p v y h y h (ap verdictNumber (sym a) ∙ eqb-true _ _ k);
+    }
 
+-- block d where the codewords of the blocks before it and the read cells of the others stand one after the other
+pub block-left : (D n d : ℕ) (g read : ℕ → List ℕ) (o s : List ℕ) → d < D → length (read d) ≡ n → o ≡ joined D n read → s ≡ joined d n g ++ drop (d * n) o
+    → midOf (d * n) (d * n + n - d * n) s ≡ read d
+block-left D n d g read o s l c e q =
+    let z : d * n + n - d * n ≡ n = omega arith in
+    rw (q, z, drop-at (joined d n g) (drop (d * n) o) (d * n) (joined-length d n g), e) (unfold messageOf in taken D n read d l c)
+
+-- the answer for the cells that were read of block d
+pub answer-at : (p : Profile) (sheet y : List ℕ) (d : ℕ) (w : Verdict) → y ≡ readBlock p sheet d → w ≡ verdict p y → w ≡ blockVerdict p sheet d
+unfolding blockVerdict
+answer-at p sheet y d w e q = q ∙ ap (verdict p) e
+
+pub word-at : (p : Profile) (sheet y w : List ℕ) (d : ℕ) → y ≡ readBlock p sheet d → w ≡ corrected p y → w ≡ codeword p sheet d
+unfolding codeword
+word-at p sheet y w d e q = q ∙ ap (corrected p) e
+
+module _ (p : Profile) (v : InRange p) (sheet : List ℕ) (d : ℕ) where
   -- the verdict tells whether the block was changed
   pub changed-is : Bytes sheet → (w : Verdict) → w ≡ blockVerdict p sheet d → isCorrected w ≡ true → changedBy w ≡ changedAt p sheet d
   unfolding blockVerdict changedAt codeword changedBy
-  changed-is h (verdicts.Corrected s f) e t = sym (changed-by-length p (readBlock p sheet d) v (block-cells p sheet d h) s f (sym e))
-  changed-is h verdicts.BadProfile e t = absurd (true-false t refl)
-  changed-is h verdicts.WrongLength e t = absurd (true-false t refl)
-  changed-is h verdicts.Uncorrectable e t = absurd (true-false t refl)
-  changed-is h verdicts.Ambiguous e t = absurd (true-false t refl)
+  changed-is h w e t =
+      sym (changed-by-length p (readBlock p sheet d) v (block-cells p sheet d h) (verdictStart w) (verdictLength w) (sym e ∙ number-0 w (eqb-true _ _ t)))
 
 pub changed-small : (w : Verdict) → changedBy w ≤ 1
 unfolding changedBy

@@ -7,19 +7,17 @@ use mathlib.Core.List.{List, [], _∷_}
 use Prim.Native.Nat.{ℕ, _<_}
 use native.Mathlib.Omega.{arith}
 use lib.Dec.{eqb}
-use lib.ListN.{length}
-use lib.Seq.{ext-getD}
 use borrow.Author.Tests.{eq-eqb, ne-eqb, eqb-true}
 use Rattle.lists.specs.Choice.{pick}
 use Rattle.lists.proofs.Test.{lt-or-ge, zero-or, true-or-false, true-false}
-use Rattle.code.specs.Run.{Reaches}
 use Rattle.block.specs.Profile.{InRange}
-use Rattle.block.specs.Block.{verdict, corrected, verdictNumber}
-use Rattle.block.specs.Promises.{Cells, Reached, NoneReached, TwoReached, OneReached}
+use Rattle.block.specs.Block.{verdict, corrected}
+use Rattle.block.specs.Numbers.{verdictNumber}
+use Rattle.block.specs.Runs.{Cells, Reached, NoneReached, TwoReached, OneReached}
 use Rattle.block.specs.declared.Profile.{Profile}
-use Rattle.block.specs.declared.Verdict.{Verdict}
-use Rattle.block.specs.declared.Verdict.the-variants.{BadProfile, WrongLength, Uncorrectable, Ambiguous, Corrected}
-use Rattle.block.proofs.Promises.{exactly-one, uncorrectable-iff, ambiguous-iff, corrected-iff}
+use Rattle.block.specs.declared.Verdict.the-variants.{Corrected}
+use Rattle.block.proofs.Shortest.{empty-run}
+use Rattle.block.proofs.Verdicts.{exactly-one, verdict-none, verdict-two, verdict-one}
 use Rattle.sheet.specs.Sheet.{isCorrected, differ}
 use Rattle.sheet.specs.Theorems.{DifferIff}
 
@@ -50,36 +48,15 @@ differ-iff c d = (
 
 -- ---- one block
 
--- document 01's numbers 3 and 4 are of one verdict each
-pub number-3 : (w : Verdict) → verdictNumber w ≡ 3 → w ≡ Uncorrectable
-number-3 BadProfile e = absurd (omega arith)
-number-3 WrongLength e = absurd (omega arith)
-number-3 Uncorrectable e = refl
-number-3 Ambiguous e = absurd (omega arith)
-number-3 (Corrected s f) e = absurd (omega arith)
-
-pub number-4 : (w : Verdict) → verdictNumber w ≡ 4 → w ≡ Ambiguous
-number-4 BadProfile e = absurd (omega arith)
-number-4 WrongLength e = absurd (omega arith)
-number-4 Uncorrectable e = absurd (omega arith)
-number-4 Ambiguous e = refl
-number-4 (Corrected s f) e = absurd (omega arith)
-
--- a run of no cell reaches only what was read
-pub no-cell : (n r b : ℕ) (y : List ℕ) (s : ℕ) (c : List ℕ) → length y ≡ n → Reaches n r b y s 0 c → c ≡ y
-no-cell n r b y s c e h =
-    ext-getD 0 c y (h .codeword .cells ∙ sym e)
-    (λ i l. sym (h .agree i (subst (λ (m : ℕ). i < m) (h .codeword .cells) l) (⊎-elim (λ a. inl a) (λ a. inr (omega arith)) (lt-or-ge i s))))
-
 module _ (p : Profile) (y : List ℕ) (v : InRange p) (h : Cells p y) where
   pub one-corrected : (s f : ℕ) (c : List ℕ) → OneReached p y s f c → (isCorrected (verdict p y) ≡ true) × (corrected p y ≡ c)
-  one-corrected s f c o = let q = corrected-iff p y s f c v h .1 o in (rw (q .0), q .1)
+  one-corrected s f c o = let q = verdict-one p y s f c v h .1 o in (rw (q .0), q .1)
 
-  pub none-refused : NoneReached p y → (verdict p y ≡ Uncorrectable) × (isCorrected (verdict p y) ≡ false)
-  none-refused n = let q = uncorrectable-iff p y v h .1 n in (q, rw q)
+  pub none-refused : NoneReached p y → (verdictNumber (verdict p y) ≡ 3) × (isCorrected (verdict p y) ≡ false)
+  none-refused n = let q = verdict-none p y v h .1 n in (ap verdictNumber q, rw q)
 
-  pub two-refused : TwoReached p y → (verdict p y ≡ Ambiguous) × (isCorrected (verdict p y) ≡ false)
-  two-refused t = let q = ambiguous-iff p y v h .1 t in (q, rw q)
+  pub two-refused : TwoReached p y → (verdictNumber (verdict p y) ≡ 4) × (isCorrected (verdict p y) ≡ false)
+  two-refused t = let q = verdict-two p y v h .1 t in (ap verdictNumber q, rw q)
 
   -- a verdict that is no refusal has its codeword
   pub corrected-one : isCorrected (verdict p y) ≡ true → (s f : ℕ) × OneReached p y s f (corrected p y)
@@ -89,7 +66,7 @@ module _ (p : Profile) (y : List ℕ) (v : InRange p) (h : Cells p y) where
       (λ o. (o .0, o .1, subst (OneReached p y (o .0) (o .1)) (sym (one-corrected (o .0) (o .1) (o .2) (o .3) .1)) (o .3)))) (exactly-one p y v h .some)
 
   pub refused-reason : isCorrected (verdict p y) ≡ false
-      → ((verdict p y ≡ Uncorrectable) × NoneReached p y) ⊎ ((verdict p y ≡ Ambiguous) × TwoReached p y)
+      → ((verdictNumber (verdict p y) ≡ 3) × NoneReached p y) ⊎ ((verdictNumber (verdict p y) ≡ 4) × TwoReached p y)
   refused-reason t =
       ⊎-elim (λ n. inl (none-refused n .0, n))
       (⊎-elim (λ z. inr (two-refused z .0, z)) (λ o. absurd (true-false (one-corrected (o .0) (o .1) (o .2) (o .3) .0) t))) (exactly-one p y v h .some)
@@ -97,7 +74,7 @@ module _ (p : Profile) (y : List ℕ) (v : InRange p) (h : Cells p y) where
   -- the number of cells of the run tells whether the block was changed
   pub changed-by-length : (s f : ℕ) → verdict p y ≡ Corrected s f → _≡_ {A = ℕ} (pick (differ (corrected p y) y) 1 0) (pick (eqb f 0) 0 1)
   changed-by-length s f q =
-      let o : OneReached p y s f (corrected p y) = corrected-iff p y s f (corrected p y) v h .0 (q, refl) in
+      let o : OneReached p y s f (corrected p y) = verdict-one p y s f (corrected p y) v h .0 (q, refl) in
       ⊎-elim
-      (λ z. rw (differ-iff (corrected p y) y .1 .1 (no-cell (p .n) (p .r) (p .b) y s (corrected p y) (h .count) (subst (λ (x : ℕ). Reached p y s x (corrected p y)) z (o .reached))), eq-eqb f 0 z))
+      (λ z. rw (differ-iff (corrected p y) y .1 .1 (empty-run (p .n) (p .r) (p .b) y s (corrected p y) (h .count) (subst (λ (x : ℕ). Reached p y s x (corrected p y)) z (o .reached))), eq-eqb f 0 z))
       (λ z. rw (differ-not (corrected p y) y (λ e. z (o .clean e .1)), ne-eqb f 0 z)) (zero-or f)

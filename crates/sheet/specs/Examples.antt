@@ -2,12 +2,14 @@
 -- what comes out; that all hold is one theorem, and it is computed from the definitions.
 use mathlib.Core.Path.{_≡_}
 use mathlib.Core.List.{List, [], _∷_}
-use Prim.Native.Nat.{ℕ}
-use Rattle.block.specs.Block.{encode, verdict, corrected}
-use Rattle.block.specs.Promises.{Reached}
+use Prim.Native.Nat.{ℕ, _*_}
+use lib.ListN.{length}
+use Rattle.block.specs.Block.{writeAnswer, writeLeaves, correctAnswer}
+use Rattle.block.specs.Numbers.{verdictNumber, writtenNumber}
+use Rattle.block.specs.Runs.{Reached}
+use Rattle.block.specs.Promises.{Corrects}
 use Rattle.block.specs.declared.Profile.{Profile}
-use Rattle.block.specs.declared.Verdict.the-variants.{Uncorrectable, Ambiguous, Corrected}
-use Rattle.sheet.specs.Sheet.{writtenSheet}
+use Rattle.sheet.specs.Sheet.{writeSheetAnswer, writeSheetLeaves}
 
 pub data Example : Type 0 where
   -- read block; codeword, start and length
@@ -21,12 +23,13 @@ pub data Example : Type 0 where
   -- payload; written sheet
   writingSheet : Profile → List ℕ → List ℕ → Example
 
-abbrev pub Holds : Example → Type 0
-Holds (correcting p y c s f) = (verdict p y ≡ Corrected s f) × (corrected p y ≡ c)
-Holds (uncorrectable p y) = verdict p y ≡ Uncorrectable
-Holds (ambiguous p y f s c t d) = (verdict p y ≡ Ambiguous) × Reached p y s f c × Reached p y t f d
-Holds (writingBlock p m c) = encode (p .b) (p .r) m ≡ c
-Holds (writingSheet p m s) = writtenSheet p m ≡ s
+-- what the entries answer and leave, whatever the lent buffer of the right length held
+abbrev pub ExampleHolds : Example → Type 0
+ExampleHolds (correcting p y c s f) = (out : List ℕ) → length out ≡ p .n → Corrects p y out s f c
+ExampleHolds (uncorrectable p y) = (out : List ℕ) → length out ≡ p .n → verdictNumber (correctAnswer p y out) ≡ 3
+ExampleHolds (ambiguous p y f s c t d) = ((out : List ℕ) → length out ≡ p .n → verdictNumber (correctAnswer p y out) ≡ 4) × Reached p y s f c × Reached p y t f d
+ExampleHolds (writingBlock p m c) = (out : List ℕ) → length out ≡ p .n → (writtenNumber (writeAnswer p m out) ≡ 0) × (writeLeaves p m out ≡ c)
+ExampleHolds (writingSheet p m s) = (out : List ℕ) → length out ≡ p .depth * p .n → (writtenNumber (writeSheetAnswer p m out) ≡ 0) × (writeSheetLeaves p m out ≡ s)
 
 -- n=4, r=3, b=0 with a limit and a depth
 abbrev pub small : ℕ → ℕ → Profile
@@ -53,7 +56,7 @@ table =
 
 abbrev pub AllHold : List Example → Type 0
 AllHold [] = Unit {0}
-AllHold (e ∷ l) = Holds e × AllHold l
+AllHold (e ∷ l) = ExampleHolds e × AllHold l
 
 -- the theorem
 abbrev pub StarredExamples : Type 0

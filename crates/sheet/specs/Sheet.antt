@@ -7,13 +7,12 @@ use lib.Dec.{eqb}
 use lib.ListN.{length, getD, take, drop, replicate}
 use Rattle.lists.specs.Choice.{pick, both}
 use Rattle.block.specs.Profile.{messageLength}
-use Rattle.block.specs.Block.{refusing, encode, verdict, corrected, verdictNumber}
+use Rattle.block.specs.Block.{refusing, encode, verdict, corrected}
+use Rattle.block.specs.Numbers.{verdictNumber}
 use Rattle.block.specs.declared.Profile.{Profile}
 use Rattle.block.specs.declared.Verdict.{Verdict}
-use Rattle.block.specs.declared.Verdict.the-variants as verdicts
 use Rattle.block.specs.declared.Written.{Written}
 use Rattle.block.specs.declared.Written.the-variants as writes
-use Rattle.sheet.specs.declared.Refusal.{Refusal}
 use Rattle.sheet.specs.declared.Refusal.the-variants.{BadProfile, WrongLength, Block}
 use Rattle.sheet.specs.declared.Reading.{Reading}
 use Rattle.sheet.specs.declared.Reading.the-variants.{Refused, Accepted}
@@ -51,14 +50,14 @@ unfoldable pub writtenSheet : Profile → List ℕ → List ℕ
 writtenSheet p payload = interleave (p .depth) (p .n) (writtenBlock p payload)
 
 -- "A sheet has D × n cells." "The payload has D × k bytes."
-unfoldable pub writeFits : Profile → ℕ → ℕ → Bool
-writeFits p payload sheet = both (eqb payload (p .depth * messageLength p)) (eqb sheet (p .depth * p .n))
+unfoldable pub writeSheetFits : Profile → ℕ → ℕ → Bool
+writeSheetFits p payload sheet = both (eqb payload (p .depth * messageLength p)) (eqb sheet (p .depth * p .n))
 
-unfoldable pub writeAnswer : Profile → List ℕ → List ℕ → Written
-writeAnswer p payload sheet = refusing p (writeFits p (length payload) (length sheet)) writes.BadProfile writes.WrongLength writes.Done
+unfoldable pub writeSheetAnswer : Profile → List ℕ → List ℕ → Written
+writeSheetAnswer p payload sheet = refusing p (writeSheetFits p (length payload) (length sheet)) writes.BadProfile writes.WrongLength writes.Done
 
-unfoldable pub writeLeaves : Profile → List ℕ → List ℕ → List ℕ
-writeLeaves p payload sheet = refusing p (writeFits p (length payload) (length sheet)) sheet sheet (writtenSheet p payload)
+unfoldable pub writeSheetLeaves : Profile → List ℕ → List ℕ → List ℕ
+writeSheetLeaves p payload sheet = refusing p (writeSheetFits p (length payload) (length sheet)) sheet sheet (writtenSheet p payload)
 
 -- ---- reading
 
@@ -76,11 +75,7 @@ module _ (p : Profile) (sheet : List ℕ) where
 
 -- a block has a codeword, or is refused
 abbrev pub isCorrected : Verdict → Bool
-isCorrected (verdicts.Corrected s f) = true
-isCorrected verdicts.BadProfile = false
-isCorrected verdicts.WrongLength = false
-isCorrected verdicts.Uncorrectable = false
-isCorrected verdicts.Ambiguous = false
+isCorrected v = eqb (verdictNumber v) 0
 
 -- two lists are not the same
 unfoldable pub differ : List ℕ → List ℕ → Bool
@@ -132,15 +127,3 @@ module _ (p : Profile) (sheet scratch payload : List ℕ) where
   -- no payload byte changes unless the sheet is accepted
   unfoldable pub readPayload : List ℕ
   readPayload = refusing p fits payload payload (pick (isAccepted (sheetAnswer p sheet)) (sheetPayload p sheet) payload)
-
--- ---- document 01's number and place of a refusal (E5): "the block number for 3 and 4 on a sheet, .. else 0"
-
-abbrev pub refusalNumber : Refusal → ℕ
-refusalNumber BadProfile = 1
-refusalNumber WrongLength = 2
-refusalNumber (Block number v) = verdictNumber v
-
-abbrev pub refusalPlace : Refusal → ℕ
-refusalPlace BadProfile = 0
-refusalPlace WrongLength = 0
-refusalPlace (Block number v) = number

@@ -7,21 +7,22 @@ use Prim.Native.Nat.{ℕ, _+_, _*_, _<_}
 use lib.Dec.{eqb}
 use lib.ListN.{getD, take, drop}
 use Rattle.lists.specs.Choice.{pick}
-use Rattle.block.specs.Block.{verdictLength}
+use Rattle.block.specs.Block.{verdict, corrected}
+use Rattle.block.specs.Numbers.{verdictLength}
 use Rattle.block.specs.declared.Profile.{Profile}
 use Rattle.block.specs.declared.Verdict.{Verdict}
 use Rattle.sheet.specs.declared.Reading.{Reading}
-use Rattle.sheet.specs.Sheet.{joined, isCorrected, isAccepted, blockVerdict, codeword, sheetAnswer}
+use Rattle.sheet.specs.Sheet.{joined, isCorrected, isAccepted, codeword, sheetAnswer}
 
 -- t is s with the n cells w laid at d, D + d, 2 D + d, ..
 pub record Laid (D n d : ℕ) (w s t : List ℕ) : Type 0 where
   pub cells : (i : ℕ) → i < n → getD t (i * D + d) 0 ≡ getD w i 0
   pub others : (i e : ℕ) → e < D → e ≢ d → getD t (i * D + e) 0 ≡ getD s (i * D + e) 0
 
--- block d answers v, and its codeword, where it has one, stands in w
-pub record CorrectedInto (p : Profile) (sheet : List ℕ) (d : ℕ) (v : Verdict) (w : List ℕ) : Type 0 where
-  pub answer : v ≡ blockVerdict p sheet d
-  pub word : isCorrected v ≡ true → w ≡ codeword p sheet d
+-- the cells y of a block answer v, and their codeword, where they have one, stands in w
+pub record CorrectedInto (p : Profile) (y : List ℕ) (v : Verdict) (w : List ℕ) : Type 0 where
+  pub answer : v ≡ verdict p y
+  pub word : isCorrected v ≡ true → w ≡ corrected p y
 
 -- the blocks answer r together, and the codewords, where each has one, stand one after the other in s
 pub record CorrectedAll (p : Profile) (sheet : List ℕ) (r : Reading) (s : List ℕ) : Type 0 where

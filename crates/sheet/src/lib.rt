@@ -4,11 +4,13 @@ ghost use Prim.Native.Nat.{_+_, _*_, _-_, _≤_, _<_};
 ghost use lib.ListN.{length, replicate};
 ghost use Rattle.block.specs.Profile.{InRange, messageLength};
 ghost use Rattle.block.specs.Block.{encode};
-ghost use Rattle.sheet.specs.Sheet.{blockOf, joined, writtenSheet, readAnswer, readScratch, readPayload, writeAnswer, writeLeaves, isCorrected, isAccepted, readFits, writeFits, refusalNumber, refusalPlace};
+ghost use Rattle.sheet.specs.Sheet.{blockOf, joined, writtenSheet, readBlock, readAnswer, readScratch, readPayload, writeSheetAnswer, writeSheetLeaves, isCorrected, isAccepted, readFits, writeSheetFits};
 ghost use Rattle.sheet.specs.Steps.{Laid, CorrectedInto, CorrectedAll, changedBy, messageAt};
 use block::Profile;
 use block::Verdict;
 use block::Written;
+
+mod numbers;
 
 /// Why a sheet is refused. Document 01 calls the first two misprint and wrong frame; the third has the block's number and its verdict.
 pub enum Refusal {
@@ -26,50 +28,17 @@ pub enum Reading {
     Accepted { changed: usize },
 }
 
-impl Refusal {
-    /// Document 01's number of a refusal.
-    pub fn number(self) -> usize
-        ensures { λ r. ⌜ r ≡ refusalNumber self ⌝ }
-    {
-        match self {
-            Refusal::BadProfile => 1,
-            Refusal::WrongLength => 2,
-            Refusal::Block { number: _, verdict } => block::verdict_number(verdict),
-        }
-    }
-
-    /// Its place: the number of the block that is refused, and else 0.
-    pub fn place(self) -> usize
-        ensures { λ r. ⌜ r ≡ refusalPlace self ⌝ }
-    {
-        match self {
-            Refusal::BadProfile => 0,
-            Refusal::WrongLength => 0,
-            Refusal::Block { number, verdict: _ } => number,
-        }
-    }
-}
-
 fn is_corrected(v: Verdict) -> bool
     ensures { λ r. ⌜ r ≡ isCorrected v ⌝ }
 {
-    match v {
-        Verdict::BadProfile => false,
-        Verdict::WrongLength => false,
-        Verdict::Uncorrectable => false,
-        Verdict::Ambiguous => false,
-        Verdict::Corrected {
-            start: _,
-            length: _,
-        } => true,
-    }
+    v.number() == 0
 }
 
 // 1 where the verdict changed a cell, and else 0.
 fn changed_by(v: Verdict) -> usize
     ensures { λ r. ⌜ r ≡ changedBy v ⌝ }
 {
-    if block::verdict_length(v) == 0 {
+    if v.length() == 0 {
         return 0;
     }
     1
@@ -143,7 +112,7 @@ fn read_fits(p: Profile, sheet: usize, scratch: usize, payload: usize) -> bool
 // Whether the writer's buffers have their lengths.
 fn write_fits(p: Profile, payload: usize, sheet: usize) -> bool
     requires { ⌜ InRange p ⌝ }
-    ensures { λ r. ⌜ r ≡ writeFits p payload sheet ⌝ }
+    ensures { λ r. ⌜ r ≡ writeSheetFits p payload sheet ⌝ }
 {
     let n = p.n;
     let depth = p.depth;
@@ -173,39 +142,56 @@ fn copy_messages(p: Profile, blocks: &[u8], payload: &mut [u8])
     }
 }
 
-// Block d of the sheet, gathered into `word` and corrected into its part of the scratch.
-fn correct_with(p: Profile, sheet: &[u8], d: usize, word: &mut [u8], part: &mut [u8]) -> Verdict
+// Every block of the sheet as it was read, one after the other in the scratch.
+fn gather_blocks(p: Profile, sheet: &[u8], scratch: &mut [u8])
     requires { ⌜ InRange p ⌝ }
-    requires { ⌜ (d < p .depth) × (length (now sheet) ≡ p .depth * p .n) × (length (now part) ≡ p .n) × (length (now word) ≡ p .n) ⌝ }
-    ensures { λ r. ⌜ CorrectedInto p (now (sheet .entry)) d r (now (part .exit)) ⌝ }
+    requires { ⌜ (length (now sheet) ≡ p .depth * p .n) × (length (now scratch) ≡ p .depth * p .n) ⌝ }
+    ensures { λ _. ⌜ now (scratch .exit) ≡ joined (p .depth) (p .n) (readBlock p (now (sheet .entry))) ⌝ }
 {
-    gather(sheet, d, p.depth, word);
+    let n = p.n;
+    let depth = p.depth;
+    let mut d: usize = 0;
+    while d < depth {
+        let a = d * n;
+        gather(sheet, d, depth, &mut scratch[a..a + n]);
+        d += 1;
+    }
+}
+
+// A block corrected in place, with the read cells in `word` meanwhile.
+fn correct_with(p: Profile, word: &mut [u8], part: &mut [u8]) -> Verdict
+    requires { ⌜ InRange p ⌝ }
+    requires { ⌜ (length (now part) ≡ p .n) × (length (now word) ≡ p .n) ⌝ }
+    ensures { λ r. ⌜ CorrectedInto p (now (part .entry)) r (now (part .exit)) ⌝ }
+{
+    bytes::copy(part, word);
     block::correct(p, word, part)
 }
 
-fn correct_block(p: Profile, sheet: &[u8], d: usize, part: &mut [u8]) -> Verdict
+fn correct_block(p: Profile, part: &mut [u8]) -> Verdict
     requires { ⌜ InRange p ⌝ }
-    requires { ⌜ (d < p .depth) × (length (now sheet) ≡ p .depth * p .n) × (length (now part) ≡ p .n) ⌝ }
-    ensures { λ r. ⌜ CorrectedInto p (now (sheet .entry)) d r (now (part .exit)) ⌝ }
+    requires { ⌜ length (now part) ≡ p .n ⌝ }
+    ensures { λ r. ⌜ CorrectedInto p (now (part .entry)) r (now (part .exit)) ⌝ }
 {
     let mut word = [0u8; 255];
     let n = p.n;
-    correct_with(p, sheet, d, &mut word[..n], part)
+    correct_with(p, &mut word[..n], part)
 }
 
-// Every block of the sheet, corrected into the scratch, or the first that is refused.
+// Every block of the sheet, gathered into the scratch and corrected there, or the first that is refused.
 fn correct_blocks(p: Profile, sheet: &[u8], scratch: &mut [u8]) -> Reading
     requires { ⌜ InRange p ⌝ }
     requires { ⌜ (length (now sheet) ≡ p .depth * p .n) × (length (now scratch) ≡ p .depth * p .n) ⌝ }
     ensures { λ r. ⌜ CorrectedAll p (now (sheet .entry)) r (now (scratch .exit)) ⌝ }
 {
+    gather_blocks(p, sheet, scratch);
     let n = p.n;
     let blocks = p.depth;
     let mut changed: usize = 0;
     let mut d: usize = 0;
     while d < blocks {
         let a = d * n;
-        let v = correct_block(p, sheet, d, &mut scratch[a..a + n]);
+        let v = correct_block(p, &mut scratch[a..a + n]);
         if !is_corrected(v) {
             return Reading::Refused(Refusal::Block {
                 number: d,
@@ -278,8 +264,8 @@ fn write_blocks(p: Profile, payload: &[u8], sheet: &mut [u8])
 
 /// Writes a payload of D × k bytes as a sheet of D × n cells.
 pub fn write(p: Profile, payload: &[u8], sheet: &mut [u8]) -> Written
-    ensures { λ r. ⌜ r ≡ writeAnswer p (now (payload .entry)) (now (sheet .entry)) ⌝ }
-    ensures { λ _. ⌜ now (sheet .exit) ≡ writeLeaves p (now (payload .entry)) (now (sheet .entry)) ⌝ }
+    ensures { λ r. ⌜ r ≡ writeSheetAnswer p (now (payload .entry)) (now (sheet .entry)) ⌝ }
+    ensures { λ _. ⌜ now (sheet .exit) ≡ writeSheetLeaves p (now (payload .entry)) (now (sheet .entry)) ⌝ }
 {
     if !p.in_range() {
         return Written::BadProfile;

@@ -58,7 +58,7 @@ fn write_small() {
     let mut cells = [0u8; 8];
     let written = sheet::write(p, &[1, 0], &mut cells);
     io::write_all(STDOUT_FILENO, b"written");
-    print_number(block::written_number(written));
+    print_number(written.number());
     io::write_all(STDOUT_FILENO, b":");
     print_bytes(&cells);
 }

@@ -9,7 +9,7 @@ use mathlib.Core.List.{List}
 use Rattle.lists.proofs.Bytes.{bytes-of}
 use Rattle.block.specs.Profile.{inRange}
 use Rattle.block.specs.Block.{correctFits}
-use Rattle.block.specs.Promises.{Cells}
+use Rattle.block.specs.Runs.{Cells}
 use Rattle.block.proofs.Ranges.{in-range}
 use Rattle.block.proofs.Entries.{zero-clean, correct-one, correct-two, correct-rest, correct-fits, read-wrong, out-wrong}
 use Rattle.block.proofs.Outcome.{outcome-clean}
@@ -45,8 +45,8 @@ remainder-of-requires c κs = (in-range _ .0 (valid (c .before)), (c .generator-
 is-zero-requires : tie.Need-is-zero-requires
 is-zero-requires c κs = search needs
 
-copy-requires : tie.Need-copy-requires
-copy-requires c κs = search needs
+copy-cells-requires : tie.Need-copy-cells-requires
+copy-cells-requires c κs = search needs
 
 same-length : tie.Need-same-length
 same-length c = search needs
@@ -59,7 +59,7 @@ returns-4 c =
     let v = in-range _ .0 (valid e) in
     let h : Cells (s .args .p) y = record { count = e .before .before .if2 .left; bytes = bytes-of y (λ i. omega (arith, e .before .before .before .before .before .before .before .shared-slice-known .given i)) } in
     let t = sym (zero-clean _ v y _ _ (c .before .before .before .before .before .before .remainder-of .ensures) (c .before .before .before .before .before .is-zero .ensures)) ∙ c .before .before .before .before .if4 .taken in
-    let o = outcome-clean (s .args .p) y (s .args .out .now) _ v h t (e .if3 .left ∙ sym (e .before .before .if2 .left)) (c .before .before .copy .ensures .1) in
+    let o = outcome-clean (s .args .p) y (s .args .out .now) _ v h t (c .before .before .copy-cells .ensures) in
     correct-rest _ _ _ (valid e) (fitting e) _ _ (o .0) (o .1)
 
 correct-errors-requires : tie.Need-correct-errors-requires
@@ -98,7 +98,7 @@ correct-spec =
     generator-of-requires
     remainder-of-requires
     is-zero-requires
-    copy-requires
+    copy-cells-requires
     same-length
     returns-4
     correct-errors-requires

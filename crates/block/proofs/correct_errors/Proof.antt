@@ -5,7 +5,7 @@ use native.Mathlib.Omega.{arith}
 use mathlib.Core.Path.{sym, _∙_}
 use mathlib.Core.List.{List}
 use Rattle.lists.proofs.Bytes.{bytes-of}
-use Rattle.block.specs.Promises.{Cells}
+use Rattle.block.specs.Runs.{Cells}
 use Rattle.block.proofs.Entries.{remainder-cells}
 use Rattle.block.proofs.Outcome.{outcome-long, outcome-twice, outcome-fits, outcome-once}
 use Rattle.block.proofs.correct_errors.Statement.{statement}

@@ -5,14 +5,14 @@ use Rattle.sheet.proofs.Steps.{changed-none, changed-some}
 use Rattle.sheet.proofs.changed_by.Statement.{statement}
 use Rattle.sheet.proofs.changed_by.Tie as tie
 
-verdict-length-requires : tie.Need-verdict-length-requires
-verdict-length-requires c κs = search needs
+length-requires : tie.Need-length-requires
+length-requires c κs = search needs
 
 returns : tie.Need-returns
-returns c = changed-none _ (sym (c .before .verdict-length .ensures) ∙ c .if1 .taken)
+returns c = changed-none _ (sym (c .before .length .ensures) ∙ c .if1 .taken)
 
 returns-2 : tie.Need-returns-2
-returns-2 c = changed-some _ (λ e. c .if1 .left (c .before .verdict-length .ensures ∙ e))
+returns-2 c = changed-some _ (λ e. c .if1 .left (c .before .length .ensures ∙ e))
 
 pub changed-by-spec : {M : Type 1} → statement M
-changed-by-spec = tie.close (tie.spec verdict-length-requires returns returns-2)
+changed-by-spec = tie.close (tie.spec length-requires returns returns-2)

@@ -10,13 +10,13 @@ array-borrow-prefix-word c = search needs
 
 slice-aggregate-correct-with : tie.Need-slice-aggregate-correct-with
 unfolding zeros
-slice-aggregate-correct-with c = sym (lent _ (c .before .before .before .pre .0 .n-most))
+slice-aggregate-correct-with c = sym (lent _ (c .before .before .pre .0 .n-most))
 
 correct-with-requires : tie.Need-correct-with-requires
 unfolding zeros
 correct-with-requires c κs =
-    let h = c .before .before .before .before .pre in
-    (h .0, (h .1 .0, h .1 .1, h .1 .2, lent _ (h .0 .n-most)))
+    let h = c .before .before .before .pre in
+    (h .0, (h .1, lent _ (h .0 .n-most)))
 
 same-length : tie.Need-same-length
 same-length c = search needs

@@ -6,7 +6,7 @@ use lib.ListN.{length}
 use borrow.Author.Tests.{not-true, not-false}
 use Rattle.block.specs.Profile.{inRange}
 use Rattle.block.proofs.Ranges.{in-range}
-use Rattle.sheet.specs.Sheet.{writeFits}
+use Rattle.sheet.specs.Sheet.{writeSheetFits}
 use Rattle.sheet.proofs.Entry.{write-lengths, write-bad, write-wrong, write-done}
 use Rattle.sheet.proofs.write.Statement.{statement}
 use Rattle.sheet.proofs.write.Tie as tie
@@ -16,7 +16,7 @@ ranged : (c : tie.Else1) → inRange (c .before .before .before .before .args .p
 ranged c = sym (c .before .in-range .ensures) ∙ not-false _ (c .if1 .left)
 
 fitting : (c : tie.Else2) → let a = c .before .before .before .before .before .before .args in
-    writeFits (a .p) (length (a .payload .now)) (length (a .sheet .now)) ≡ true
+    writeSheetFits (a .p) (length (a .payload .now)) (length (a .sheet .now)) ≡ true
 fitting c = sym (c .before .write-fits .ensures) ∙ not-false _ (c .if2 .left)
 
 in-range-requires : tie.Need-in-range-requires

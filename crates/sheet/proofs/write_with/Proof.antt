@@ -4,7 +4,7 @@ use Prim.Native.Nat.{ℕ, _*_}
 use mathlib.Core.Path.{_≡_, sym, ap, _∙_}
 use lib.ListN.{length}
 use Rattle.block.specs.Block.{encode}
-use Rattle.sheet.proofs.Blocks.{block-written}
+use Rattle.block.proofs.Answers.{block-written}
 use Rattle.sheet.proofs.write_with.Statement.{statement}
 use Rattle.sheet.proofs.write_with.Tie as tie
 
@@ -30,7 +30,7 @@ returns c =
     let a = start .args in
     let h = start .pre in
     let w = c .before .before .before .before .before .before .before .write in
-    let q : w .last .1 .1 .0 ≡ encode (a .p .b) (a .p .r) (a .message .now) = w .ensures .1 ∙ block-written (a .p) (h .0) (a .message .now) (a .word .now) (h .1 .3) (h .1 .1) in
+    let q : w .last .1 .1 .0 ≡ encode (a .p .b) (a .p .r) (a .message .now) = w .ensures .1 ∙ block-written (a .p) (h .0) (a .message .now) (a .word .now) (h .1 .1) (h .1 .3) in
     let z : length (w .last .1 .1 .0) ≡ a .p .n = w .kept .1 .1 .0 ∙ h .1 .3 in
     rw (sym q, sym z) (c .before .before .scatter .ensures)
 

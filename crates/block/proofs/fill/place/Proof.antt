@@ -10,8 +10,8 @@ use Rattle.block.proofs.fill.place.Tie as tie
 add-end : tie.Need-add-end
 add-end c = search needs
 
-copy-requires : tie.Need-copy-requires
-copy-requires c κs = search needs
+copy-cells-requires : tie.Need-copy-cells-requires
+copy-cells-requires c κs = search needs
 
 sub-add-error : tie.Need-sub-add-error
 sub-add-error c = search needs
@@ -31,15 +31,15 @@ same-length c = search needs
 returns : tie.Need-returns
 returns c =
     let s = c .before .before .before .before .before .before .before .before .before .before in
-    placed-law (s .args .read .now) (s .args .out .now) _ _ _ _ (s .args .start) (s .args .size) (s .args .start + s .args .size - s .args .start) (s .pre .0) (s .pre .1 .0) (omega arith)
-    (c .before .before .before .before .before .before .copy .ensures .1) refl (c .before .before .add-error .ensures)
+    placed-law (s .args .read .now) _ _ _ _ (s .args .start) (s .args .size) (s .args .start + s .args .size - s .args .start) (s .pre .1 .0) (omega arith)
+    (c .before .before .before .before .before .before .copy-cells .ensures) refl (c .before .before .add-error .ensures)
 
 pub place-spec : {M : Type 1} → statement M
 place-spec =
     tie.close
     (tie.spec
     add-end
-    copy-requires
+    copy-cells-requires
     sub-add-error
     part-add-error-start
     part-add-error-end

@@ -1,0 +1,311 @@
+-- What the verdict on n cells says: a block is clean, or the search has found what it means; each equivalence goes by these cases.
+use mathlib.Core.Path.{_≡_, refl, sym, ap, ap₂, _∙_, subst}
+use mathlib.Core.Logic.{_↔_, _≢_, _⊎_, inl, inr, ⊎-elim}
+use mathlib.Core.Bool.{true, false}
+use mathlib.Core.List.{List, []}
+use Prim.Native.Nat.{ℕ, zero, suc, _≤_, _<_, zero-le}
+use native.Mathlib.Omega.{arith}
+use lib.Dec.{ltb}
+use lib.ListN.{length, take}
+use borrow.Author.Tests.{ltb-true, ltb-false, lt-ltb, le-ltb}
+use Rattle.lists.proofs.Test.{true-or-false, true-false}
+use Rattle.code.specs.Poly.{padd}
+use Rattle.code.specs.Run.{shiftedRemainder, addedAt}
+use Rattle.code.specs.Search.{Best}
+use Rattle.code.proofs.Poly.{padd-zeros}
+use Rattle.code.proofs.Theorems.{two-runs}
+use Rattle.block.specs.Profile.{InRange, half}
+use Rattle.block.specs.Block.{isClean, decided, judged, verdict, filled, corrected}
+use Rattle.block.specs.Runs.{Cells, Word, Reached, NoneReached, TwoReached, OneReached}
+use Rattle.block.specs.Promises.{ExactlyOne}
+use Rattle.block.specs.declared.Profile.{Profile}
+use Rattle.block.specs.declared.Verdict.{Verdict}
+use Rattle.block.specs.declared.Verdict.the-variants.{BadProfile, WrongLength, Uncorrectable, Ambiguous, Corrected}
+use Rattle.block.proofs.Shortest.{empty-run, word, best, e, scan, reach-word, extent-reach, clean-word, word-clean, clean-verdict, wrong-verdict, reach-start, reach-size, small, best-reach, best-least, at-size, apart}
+
+-- three verdicts that differ
+uncorrectable-ambiguous : _≡_ {A = Verdict} Uncorrectable Ambiguous → ⊥
+uncorrectable-ambiguous q = let z : _≡_ {A = ℕ} 0 1 = cc in omega arith
+
+uncorrectable-corrected : {s f : ℕ} → _≡_ {A = Verdict} Uncorrectable (Corrected s f) → ⊥
+uncorrectable-corrected q = let z : _≡_ {A = ℕ} 0 1 = cc in omega arith
+
+ambiguous-corrected : {s f : ℕ} → _≡_ {A = Verdict} Ambiguous (Corrected s f) → ⊥
+ambiguous-corrected q = let z : _≡_ {A = ℕ} 0 1 = cc in omega arith
+
+-- nothing added is the word itself
+pub added-none : (y : List ℕ) (s : ℕ) (R : List ℕ) → s ≤ length y → addedAt s (take 0 R) y ≡ y
+unfolding addedAt
+added-none y s R l = ap (padd y) (rw mathlib.Core.List.append-nil) ∙ padd-zeros y s l
+
+-- the codeword of a verdict
+pub corrected-at : (p : Profile) (y : List ℕ) (s f : ℕ) → verdict p y ≡ Corrected s f → corrected p y ≡ addedAt s (take f (shiftedRemainder (p .b) (p .r) s y)) y
+unfolding corrected filled
+corrected-at p y s f q = rw q
+
+module _ (p : Profile) (y : List ℕ) (v : InRange p) (h : Cells p y) where
+  -- ---- a clean block
+
+  module _ (t : isClean (p .b) (p .r) y ≡ true) where
+    itself : Reached p y 0 0 y
+    itself = record { run = zero-le; codeword = clean-word p y v h t; agree = λ i l o. refl }
+
+    clean-none : NoneReached p y → ⊥
+    clean-none n = n 0 0 y zero-le itself
+
+    clean-two : TwoReached p y → ⊥
+    clean-two z =
+        let s₀ : z .size ≡ 0 = (let l : z .size ≤ 0 = z .least 0 0 y itself in omega arith) in
+        z .differ
+        (empty-run (p .n) (p .r) (p .b) y (z .start₁) (z .first) (h .count) (subst (λ (x : ℕ). Reached p y (z .start₁) x (z .first)) s₀ (z .reached₁))
+        ∙ sym (empty-run (p .n) (p .r) (p .b) y (z .start₂) (z .second) (h .count) (subst (λ (x : ℕ). Reached p y (z .start₂) x (z .second)) s₀ (z .reached₂))))
+
+    clean-cells : corrected p y ≡ y
+    clean-cells = corrected-at p y 0 0 (clean-verdict p y v h t) ∙ added-none y 0 (shiftedRemainder (p .b) (p .r) 0 y) zero-le
+
+    clean-one : OneReached p y 0 0 y
+    clean-one = record {
+      within = zero-le;
+      reached = itself;
+      least = λ s f c k. zero-le;
+      others = λ s f c k n. positive f (λ q. n (empty-run (p .n) (p .r) (p .b) y s c (h .count) (subst (λ (x : ℕ). Reached p y s x c) q k)));
+      clean = λ _. (refl, refl);
+    }
+      where
+        positive : (f : ℕ) → f ≢ 0 → 0 < f
+        positive zero n = absurd (n refl)
+        positive (suc f) n = omega arith
+
+    -- and no other start, length and codeword
+    clean-only : (s f : ℕ) (c : List ℕ) → OneReached p y s f c → (s ≡ 0) × (f ≡ 0) × (c ≡ y)
+    clean-only s f c o =
+        let f₀ : f ≡ 0 = (let l : f ≤ 0 = o .least 0 0 y itself in omega arith) in
+        let q : c ≡ y = empty-run (p .n) (p .r) (p .b) y s c (h .count) (subst (λ (x : ℕ). Reached p y s x c) f₀ (o .reached)) in
+        (o .clean q .0, f₀, q)
+
+  -- ---- a block that is not clean
+
+  module _ (t : isClean (p .b) (p .r) y ≡ false) where
+    abbrev k : Best
+    k = best p y v h
+
+    abbrev W : ℕ → ℕ → List ℕ
+    W = word p y v h
+
+    too-long : p .limit < k .size → verdict p y ≡ Uncorrectable
+    unfolding decided
+    too-long l = wrong-verdict p y v h t ∙ rw (lt-ltb (p .limit) (k .size) l)
+
+    twice : k .size ≤ p .limit → k .again ≡ true → verdict p y ≡ Ambiguous
+    unfolding decided
+    twice l a = wrong-verdict p y v h t ∙ rw (le-ltb (p .limit) (k .size) l, a)
+
+    once : k .size ≤ p .limit → k .again ≡ false → verdict p y ≡ Corrected (k .start) (k .size)
+    unfolding decided
+    once l a = wrong-verdict p y v h t ∙ rw (le-ltb (p .limit) (k .size) l, a)
+
+    long-none : p .limit < k .size → NoneReached p y
+    long-none l s f c m r = let q : k .size ≤ f = reach-size p y v h t s f c m r in omega arith
+
+    module _ (l : k .size ≤ p .limit) where
+      hit : Reached p y (k .start) (k .size) (W (k .start) (k .size))
+      hit = best-reach p y v h t l
+
+      some-reached : NoneReached p y → ⊥
+      some-reached n = n (k .start) (k .size) (W (k .start) (k .size)) l hit
+
+      -- a second start
+      two-starts : k .again ≡ true → TwoReached p y
+      two-starts a =
+          let w = scan p y v h .twin a l in
+          let other : Reached p y (w .0) (k .size) (W (w .0) (k .size)) =
+          extent-reach p y v h (w .0) (k .size) (small p y v h t l) (let q : e p y v h (w .0) ≡ k .size = w .3 in omega (arith, w .2)) (let q : e p y v h (w .0) ≡ k .size = w .3 in omega arith) in
+          record {
+            size = k .size;
+            within = l;
+            least = best-least p y v h t l;
+            start₁ = k .start;
+            start₂ = w .0;
+            first = W (k .start) (k .size);
+            second = W (w .0) (k .size);
+            reached₁ = hit;
+            reached₂ = other;
+            differ = apart p y v h t l (k .start) (w .0) (W (k .start) (k .size)) (W (w .0) (k .size)) (λ q. w .4 (sym q)) hit other;
+          }
+
+      -- where no second start has it, a run of that length that reaches a codeword starts there
+      module _ (a : k .again ≡ false) where
+        same-start : (s : ℕ) (c : List ℕ) → Reached p y s (k .size) c → s ≡ k .start
+        same-start s c r =
+            let q : e p y v h s ≡ k .size = at-size p y v h t l s c r in
+            scan p y v h .alone a s l (reach-start p y v h t s (k .size) c r) (omega (arith, r .run)) q
+
+        same-word : (s : ℕ) (c : List ℕ) → Reached p y s (k .size) c → c ≡ W (k .start) (k .size)
+        same-word s c r =
+            reach-word p y v h s (k .size) c (small p y v h t l) r ∙ ap (λ (x : ℕ). W x (k .size)) (same-start s c r)
+
+        one-start : OneReached p y (k .start) (k .size) (W (k .start) (k .size))
+        one-start = record {
+          within = l;
+          reached = hit;
+          least = best-least p y v h t l;
+          others = λ s f c r n. longer (k .size) f (best-least p y v h t l s f c r) (λ q. n (same-word s c (subst (λ (x : ℕ). Reached p y s x c) (sym q) r)));
+          clean = λ q. absurd (true-false (word-clean p y v h (subst (Word p) q (hit .codeword))) t);
+        }
+          where
+            longer : (m f : ℕ) → m ≤ f → (m ≡ f → ⊥) → m < f
+            longer m f u n = omega arith
+
+        not-two : TwoReached p y → ⊥
+        not-two z =
+            let q : z .size ≡ k .size = (let i : z .size ≤ k .size = z .least (k .start) (k .size) _ hit in
+            let j : k .size ≤ z .size = reach-size p y v h t (z .start₁) (z .size) (z .first) (z .within) (z .reached₁) in omega arith) in
+            z .differ
+            (same-word (z .start₁) (z .first) (subst (λ (x : ℕ). Reached p y (z .start₁) x (z .first)) q (z .reached₁))
+            ∙ sym (same-word (z .start₂) (z .second) (subst (λ (x : ℕ). Reached p y (z .start₂) x (z .second)) q (z .reached₂))))
+
+        one-only : (s f : ℕ) (c : List ℕ) → OneReached p y s f c → (s ≡ k .start) × (f ≡ k .size) × (c ≡ W (k .start) (k .size))
+        one-only s f c o =
+            let q : f ≡ k .size = (let i : f ≤ k .size = o .least (k .start) (k .size) _ hit in let j : k .size ≤ f = reach-size p y v h t s f c (o .within) (o .reached) in omega arith) in
+            let r : Reached p y s (k .size) c = subst (λ (x : ℕ). Reached p y s x c) q (o .reached) in
+            (same-start s c r, q, same-word s c r)
+
+  -- two codewords of the least length leave no only one
+  two-one : (s f : ℕ) (c : List ℕ) → TwoReached p y → OneReached p y s f c → ⊥
+  two-one s f c z o =
+      let q : z .size ≤ f = z .least s f c (o .reached) in
+      let a : (z .first ≢ c) → ⊥ = λ n. (let l : f < z .size = o .others (z .start₁) (z .size) (z .first) (z .reached₁) n in omega arith) in
+      let b : (z .second ≢ c) → ⊥ = λ n. (let l : f < z .size = o .others (z .start₂) (z .size) (z .second) (z .reached₂) n in omega arith) in
+      a (λ i. b (λ j. z .differ (i ∙ sym j)))
+
+-- ---- the three verdicts
+
+-- the three cases: what the verdict is and what holds, for whoever wants either
+module _ (p : Profile) (y : List ℕ) (v : InRange p) (h : Cells p y) where
+  pub record IsOne (s f : ℕ) : Type 0 where
+    pub says : verdict p y ≡ Corrected s f
+    pub holds : OneReached p y s f (corrected p y)
+    pub only : (s′ f′ : ℕ) (c : List ℕ) → OneReached p y s′ f′ c → (s′ ≡ s) × (f′ ≡ f) × (c ≡ corrected p y)
+
+  pub cases : ((verdict p y ≡ Uncorrectable) × NoneReached p y) ⊎ (((verdict p y ≡ Ambiguous) × TwoReached p y) ⊎ ((s f : ℕ) × IsOne s f))
+  cases =
+      ⊎-elim
+      (λ t. inr (inr (
+        0,
+        0,
+        record {
+          says = clean-verdict p y v h t;
+          holds = rw (clean-cells p y v h t) (clean-one p y v h t);
+          only = λ s f c o. rw (clean-cells p y v h t) (clean-only p y v h t s f c o);
+        },
+      )))
+      (λ t. ⊎-elim
+      (λ l. let m : p .limit < best p y v h .size = ltb-true _ _ l in inl (too-long p y v h t m, long-none p y v h t m))
+      (λ l. let m : best p y v h .size ≤ p .limit = ltb-false _ _ l in
+      ⊎-elim (λ a. inr (inl (twice p y v h t m a, two-starts p y v h t m a)))
+      (λ a.
+      let q : corrected p y ≡ word p y v h (best p y v h .start) (best p y v h .size) = corrected-at p y _ _ (once p y v h t m a) in
+      inr (inr (
+        best p y v h .start,
+        best p y v h .size,
+        record {
+          says = once p y v h t m a;
+          holds = rw q (one-start p y v h t m a);
+          only = λ s f c o. rw q (one-only p y v h t m a s f c o);
+        },
+      )))
+      (true-or-false (best p y v h .again)))
+      (true-or-false (ltb (p .limit) (best p y v h .size))))
+      (true-or-false (isClean (p .b) (p .r) y))
+
+  none-two : NoneReached p y → TwoReached p y → ⊥
+  none-two n z = n (z .start₁) (z .size) (z .first) (z .within) (z .reached₁)
+
+  none-one : (s f : ℕ) (c : List ℕ) → NoneReached p y → OneReached p y s f c → ⊥
+  none-one s f c n o = n s f c (o .within) (o .reached)
+
+pub exactly-one : ExactlyOne
+exactly-one p y v h = record {
+  some = ⊎-elim (λ a. inl (a .1)) (λ r. inr (⊎-elim (λ b. inl (b .1)) (λ c. inr (c .0, c .1, corrected p y, c .2 .holds)) r)) (cases p y v h);
+  none-two = none-two p y v h;
+  none-one = none-one p y v h;
+  two-one = two-one p y v h;
+}
+
+pub verdict-none : (p : Profile) (y : List ℕ) → InRange p → Cells p y → (verdict p y ≡ Uncorrectable) ↔ NoneReached p y
+verdict-none p y v h = (there, back)
+  where
+    there : verdict p y ≡ Uncorrectable → NoneReached p y
+    there q =
+        ⊎-elim (λ a. a .1)
+        (⊎-elim (λ b. absurd (uncorrectable-ambiguous (sym q ∙ b .0))) (λ c. absurd (uncorrectable-corrected (sym q ∙ c .2 .says)))) (cases p y v h)
+
+    back : NoneReached p y → verdict p y ≡ Uncorrectable
+    back n =
+        ⊎-elim (λ a. a .0)
+        (⊎-elim (λ b. absurd (none-two p y v h n (b .1))) (λ c. absurd (none-one p y v h (c .0) (c .1) (corrected p y) n (c .2 .holds)))) (cases p y v h)
+
+pub verdict-two : (p : Profile) (y : List ℕ) → InRange p → Cells p y → (verdict p y ≡ Ambiguous) ↔ TwoReached p y
+verdict-two p y v h = (there, back)
+  where
+    there : verdict p y ≡ Ambiguous → TwoReached p y
+    there q =
+        ⊎-elim (λ a. absurd (uncorrectable-ambiguous (sym (a .0) ∙ q)))
+        (⊎-elim (λ b. b .1) (λ c. absurd (ambiguous-corrected (sym q ∙ c .2 .says)))) (cases p y v h)
+
+    back : TwoReached p y → verdict p y ≡ Ambiguous
+    back z =
+        ⊎-elim (λ a. absurd (none-two p y v h (a .1) z))
+        (⊎-elim (λ b. b .0) (λ c. absurd (two-one p y v h (c .0) (c .1) (corrected p y) z (c .2 .holds)))) (cases p y v h)
+
+corrected-inj : {s f a e : ℕ} → _≡_ {A = Verdict} (Corrected s f) (Corrected a e) → (s ≡ a) × (f ≡ e)
+corrected-inj q = (cc, cc)
+
+pub verdict-one : (p : Profile) (y : List ℕ) (s f : ℕ) (c : List ℕ) → InRange p → Cells p y
+    → ((verdict p y ≡ Corrected s f) × (corrected p y ≡ c)) ↔ OneReached p y s f c
+verdict-one p y s f c v h = (there, back)
+  where
+    there : (verdict p y ≡ Corrected s f) × (corrected p y ≡ c) → OneReached p y s f c
+    there q =
+        ⊎-elim (λ a. absurd (uncorrectable-corrected (sym (a .0) ∙ q .0)))
+        (⊎-elim (λ b. absurd (ambiguous-corrected (sym (b .0) ∙ q .0)))
+        (λ d.
+        let i : (d .0 ≡ s) × (d .1 ≡ f) = corrected-inj (sym (d .2 .says) ∙ q .0) in
+        rw (sym (i .0), sym (i .1), sym (q .1)) (d .2 .holds))) (cases p y v h)
+
+    back : OneReached p y s f c → (verdict p y ≡ Corrected s f) × (corrected p y ≡ c)
+    back o =
+        ⊎-elim (λ a. absurd (none-one p y v h s f c (a .1) o))
+        (⊎-elim (λ b. absurd (two-one p y v h s f c (b .1) o))
+        (λ d.
+        let i : (s ≡ d .0) × (f ≡ d .1) × (c ≡ corrected p y) = d .2 .only s f c o in
+        (d .2 .says ∙ ap₂ Corrected (sym (i .0)) (sym (i .1)), sym (i .2)))) (cases p y v h)
+
+-- n, r, b and L are all that the verdict and its codeword read of the profile
+module _ (p q : Profile) (y : List ℕ) (en : p .n ≡ q .n) (er : p .r ≡ q .r) (eb : p .b ≡ q .b) (el : p .limit ≡ q .limit) where
+  pub same-verdict : verdict p y ≡ verdict q y
+  unfolding verdict judged
+  same-verdict = rw (en, er, eb, el)
+
+  pub same-filled : (out : List ℕ) (w : Verdict) → filled p y out w ≡ filled q y out w
+  unfolding filled
+  same-filled out (Corrected s f) = rw (er, eb)
+  same-filled out BadProfile = refl
+  same-filled out WrongLength = refl
+  same-filled out Uncorrectable = refl
+  same-filled out Ambiguous = refl
+
+-- where L ≥ h, a codeword within a run of at most h cells is the block's
+pub verdict-half : (p : Profile) (y : List ℕ) (s f : ℕ) (c : List ℕ) → InRange p → Cells p y → half p ≤ p .limit → f ≤ half p → Reached p y s f c
+    → ((a e : ℕ) × (verdict p y ≡ Corrected a e)) × (corrected p y ≡ c)
+verdict-half p y s f c v h l m k =
+    let same : (a e : ℕ) (d : List ℕ) → Reached p y a e d → e ≤ f → d ≡ c =
+    λ a e d r u. two-runs (p .n) (p .r) (p .b) y a e s f d c (v .n-most) (h .count) r k (omega arith) in
+    ⊎-elim (λ a. absurd (a .1 s f c (omega arith) k))
+    (⊎-elim
+    (λ b.
+    let z : TwoReached p y = b .1 in
+    let u : z .size ≤ f = z .least s f c k in
+    absurd (z .differ (same (z .start₁) (z .size) (z .first) (z .reached₁) u ∙ sym (same (z .start₂) (z .size) (z .second) (z .reached₂) u))))
+    (λ d. ((d .0, d .1, d .2 .says), same (d .0) (d .1) (corrected p y) (d .2 .holds .reached) (d .2 .holds .least s f c k))))
+    (cases p y v h)

@@ -1,0 +1,73 @@
+-- Document 01's number, place and values of each answer of an entry on a block (E5). The promises are stated through these, and the functions that
+-- hand them out have them as contracts. A lone block's refusal has place 0 ("else 0"), and a value that an answer does not have is 0.
+use Prim.Native.Nat.{ℕ}
+use Rattle.block.specs.declared.Verdict.{Verdict}
+use Rattle.block.specs.declared.Verdict.the-variants as verdicts
+use Rattle.block.specs.declared.Written.{Written}
+use Rattle.block.specs.declared.Written.the-variants as writes
+use Rattle.block.specs.declared.Checked.{Checked}
+use Rattle.block.specs.declared.Checked.the-variants as checks
+
+-- ---- correcting: 1 misprint, 2 wrong frame, 3 torn, 4 tied, or 0 for a block that is mended or clean
+
+abbrev pub verdictNumber : Verdict → ℕ
+verdictNumber verdicts.BadProfile = 1
+verdictNumber verdicts.WrongLength = 2
+verdictNumber verdicts.Uncorrectable = 3
+verdictNumber verdicts.Ambiguous = 4
+verdictNumber (verdicts.Corrected s f) = 0
+
+abbrev pub verdictPlace : Verdict → ℕ
+verdictPlace verdicts.BadProfile = 0
+verdictPlace verdicts.WrongLength = 0
+verdictPlace verdicts.Uncorrectable = 0
+verdictPlace verdicts.Ambiguous = 0
+verdictPlace (verdicts.Corrected s f) = 0
+
+-- "the result is s and f"
+abbrev pub verdictStart : Verdict → ℕ
+verdictStart (verdicts.Corrected s f) = s
+verdictStart verdicts.BadProfile = 0
+verdictStart verdicts.WrongLength = 0
+verdictStart verdicts.Uncorrectable = 0
+verdictStart verdicts.Ambiguous = 0
+
+abbrev pub verdictLength : Verdict → ℕ
+verdictLength (verdicts.Corrected s f) = f
+verdictLength verdicts.BadProfile = 0
+verdictLength verdicts.WrongLength = 0
+verdictLength verdicts.Uncorrectable = 0
+verdictLength verdicts.Ambiguous = 0
+
+-- ---- writing, a block or a sheet: 1 misprint, 2 wrong frame, or 0
+
+abbrev pub writtenNumber : Written → ℕ
+writtenNumber writes.BadProfile = 1
+writtenNumber writes.WrongLength = 2
+writtenNumber writes.Done = 0
+
+abbrev pub writtenPlace : Written → ℕ
+writtenPlace writes.BadProfile = 0
+writtenPlace writes.WrongLength = 0
+writtenPlace writes.Done = 0
+
+-- ---- checking: 1 misprint, 2 wrong frame, or 0; a block that is not clean is no refusal
+
+abbrev pub checkedNumber : Checked → ℕ
+checkedNumber checks.BadProfile = 1
+checkedNumber checks.WrongLength = 2
+checkedNumber checks.Clean = 0
+checkedNumber checks.NotClean = 0
+
+abbrev pub checkedPlace : Checked → ℕ
+checkedPlace checks.BadProfile = 0
+checkedPlace checks.WrongLength = 0
+checkedPlace checks.Clean = 0
+checkedPlace checks.NotClean = 0
+
+-- "called clean": 1, and else 0
+abbrev pub checkedClean : Checked → ℕ
+checkedClean checks.Clean = 1
+checkedClean checks.NotClean = 0
+checkedClean checks.BadProfile = 0
+checkedClean checks.WrongLength = 0

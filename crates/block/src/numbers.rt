@@ -1,0 +1,128 @@
+// Document 01's number, place and values of each answer. Each function is one match, and its contract is the definition of specs/Numbers.antt.
+use crate::Checked;
+use crate::Verdict;
+use crate::Written;
+ghost use mathlib.Core.Path.{_≡_};
+ghost use Rattle.block.specs.Numbers.{verdictNumber, verdictPlace, verdictStart, verdictLength, writtenNumber, writtenPlace, checkedNumber, checkedPlace, checkedClean};
+
+impl Verdict {
+    /// 1 to 4, or 0 for a corrected block.
+    pub fn number(self) -> usize
+        ensures { λ r. ⌜ r ≡ verdictNumber self ⌝ }
+    {
+        match self {
+            Verdict::BadProfile => 1,
+            Verdict::WrongLength => 2,
+            Verdict::Uncorrectable => 3,
+            Verdict::Ambiguous => 4,
+            Verdict::Corrected {
+                start: _,
+                length: _,
+            } => 0,
+        }
+    }
+
+    /// The place of a lone block's refusal is 0.
+    pub fn place(self) -> usize
+        ensures { λ r. ⌜ r ≡ verdictPlace self ⌝ }
+    {
+        match self {
+            Verdict::BadProfile => 0,
+            Verdict::WrongLength => 0,
+            Verdict::Uncorrectable => 0,
+            Verdict::Ambiguous => 0,
+            Verdict::Corrected {
+                start: _,
+                length: _,
+            } => 0,
+        }
+    }
+
+    /// The start of a corrected block's run; 0 beside a refusal.
+    pub fn start(self) -> usize
+        ensures { λ r. ⌜ r ≡ verdictStart self ⌝ }
+    {
+        match self {
+            Verdict::Corrected { start, length: _ } => start,
+            Verdict::BadProfile => 0,
+            Verdict::WrongLength => 0,
+            Verdict::Uncorrectable => 0,
+            Verdict::Ambiguous => 0,
+        }
+    }
+
+    /// The length of a corrected block's run; 0 beside a refusal.
+    pub fn length(self) -> usize
+        ensures { λ r. ⌜ r ≡ verdictLength self ⌝ }
+    {
+        match self {
+            Verdict::Corrected { start: _, length } => length,
+            Verdict::BadProfile => 0,
+            Verdict::WrongLength => 0,
+            Verdict::Uncorrectable => 0,
+            Verdict::Ambiguous => 0,
+        }
+    }
+}
+
+impl Written {
+    /// 1, 2, or 0 for what is written.
+    pub fn number(self) -> usize
+        ensures { λ r. ⌜ r ≡ writtenNumber self ⌝ }
+    {
+        match self {
+            Written::BadProfile => 1,
+            Written::WrongLength => 2,
+            Written::Done => 0,
+        }
+    }
+
+    /// The place of refusals 1 and 2 is 0.
+    pub fn place(self) -> usize
+        ensures { λ r. ⌜ r ≡ writtenPlace self ⌝ }
+    {
+        match self {
+            Written::BadProfile => 0,
+            Written::WrongLength => 0,
+            Written::Done => 0,
+        }
+    }
+}
+
+impl Checked {
+    /// 1, 2, or 0 for a block that was checked, clean or not.
+    pub fn number(self) -> usize
+        ensures { λ r. ⌜ r ≡ checkedNumber self ⌝ }
+    {
+        match self {
+            Checked::BadProfile => 1,
+            Checked::WrongLength => 2,
+            Checked::Clean => 0,
+            Checked::NotClean => 0,
+        }
+    }
+
+    /// The place of refusals 1 and 2 is 0.
+    pub fn place(self) -> usize
+        ensures { λ r. ⌜ r ≡ checkedPlace self ⌝ }
+    {
+        match self {
+            Checked::BadProfile => 0,
+            Checked::WrongLength => 0,
+            Checked::Clean => 0,
+            Checked::NotClean => 0,
+        }
+    }
+
+    /// 1 for a clean block; 0 for another, and beside a refusal.
+    pub fn clean(self) -> usize
+        ensures { λ r. ⌜ r ≡ checkedClean self ⌝ }
+    {
+        match self {
+            Checked::Clean => 1,
+            Checked::NotClean => 0,
+            Checked::BadProfile => 0,
+            Checked::WrongLength => 0,
+        }
+    }
+}
