@@ -10,7 +10,7 @@ use lib.ListN.{length, getD, take, drop, length-replicate}
 use borrow.Author.Tests.{eqb-true, eqb-false}
 use Rattle.lists.proofs.Test.{true-or-false, true-false, pick-of}
 use Rattle.lists.specs.Bytes.{Bytes}
-use Rattle.lists.proofs.Bytes.{getD-byte, bytes-of, drop-bytes}
+use Rattle.lists.proofs.Bytes.{bytes-of, drop-bytes}
 use Rattle.block.specs.Profile.{InRange, inRange, messageLength}
 use Rattle.block.specs.declared.Profile.{Profile}
 use Rattle.block.proofs.Ranges.{in-range}
@@ -52,7 +52,7 @@ module _ (p : Profile) (sheet : List ℕ) where
         let bytes = payload-back p sheet (scratchOf p) (payloadOf p) v h changed q .bytes in
         let most : changed ≤ p .depth = changed-most p sheet (scratchOf p) (payloadOf p) v h changed q in
         rw (sym (text-accepted p sheet (scratchOf p) (payloadOf p) refl refl changed back (sym q) refl))
-        (listing-length changed back (omega (arith, v .depth-most)) (λ i. getD-byte back i bytes))
+        (listing-length changed back (omega (arith, v .depth-most)) bytes)
 
   -- refusals 1 and 2
   early-fits : (number : ℕ) → ReadRefused p sheet (scratchOf p) (payloadOf p) number → length (sheetText p sheet) ≤ longestText

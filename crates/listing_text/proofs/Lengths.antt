@@ -8,11 +8,12 @@ use mathlib.Core.List.{List, [], _∷_}
 use lib.ListN.{length, drop, length-append}
 use lib.Dec.{ltb, lit<}
 use borrow.Author.Tests.{lt-ltb}
+use Rattle.lists.specs.Bytes.{Bytes}
 use Rattle.lists.proofs.Test.{pick-of}
 use Rattle.plot.specs.Layout.{Plot, noLine, lineOf, lineHolds, linesHold, linesOf}
 use Rattle.plot.specs.Grammar.{Reading, Plots, Stopped, reading, longest}
 use Rattle.plot.specs.Answers.{numberOf, placeOf}
-use Rattle.plot.specs.Canonical.{Rising, Bytes}
+use Rattle.plot.specs.Canonical.{Rising}
 use Rattle.plot.specs.declared.Line.{Line}
 use Rattle.plot.proofs.Sound.{pick-true}
 use Rattle.plot.proofs.Entries.{reading-sound}

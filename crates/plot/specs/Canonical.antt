@@ -5,7 +5,8 @@ use mathlib.Core.Path.{_≡_}
 use mathlib.Core.Logic.{_↔_}
 use mathlib.Core.Bool.{true}
 use mathlib.Core.List.{List, [], _∷_, _++_}
-use lib.ListN.{length, getD, replicate}
+use lib.ListN.{length, replicate}
+use Rattle.lists.specs.Bytes.{Bytes}
 use Rattle.plot.specs.Layout.{Plot, noLine, linesHold, linesOf, recordOf}
 use Rattle.plot.specs.Grammar.{Plots, reading, longest}
 use Rattle.plot.specs.declared.Added.{Added}
@@ -35,9 +36,6 @@ bytesOf (p ∷ ps) = recordOf p ++ bytesOf ps
 -- "A payload .. holds records, then zero bytes to its end."
 abbrev pub payloadOf : ℕ → List Plot → List ℕ
 payloadOf size ps = bytesOf ps ++ replicate (size - length (bytesOf ps)) 0
-
-abbrev pub Bytes : List ℕ → Type 0
-Bytes s = (i : ℕ) → getD s i 0 < 256
 
 -- plots added one after the other, as long as none is refused
 pub data Outcome : Type 0 where
