@@ -11,7 +11,7 @@ use borrow.Author.Tests.{lt-ltb}
 use Rattle.lists.specs.Bytes.{Bytes}
 use Rattle.lists.proofs.Test.{pick-of}
 use Rattle.plot.specs.Layout.{Plot, noLine, lineOf, lineHolds, linesHold, linesOf}
-use Rattle.plot.specs.Grammar.{Reading, Plots, Stopped, reading, longest}
+use Rattle.plot.specs.Grammar.{Parsed, Plots, Stopped, reading, longest}
 use Rattle.plot.specs.Answers.{numberOf, placeOf}
 use Rattle.plot.specs.Canonical.{Rising}
 use Rattle.plot.specs.declared.Line.{Line}
@@ -79,7 +79,7 @@ pub listing-length : (changed : ℕ) (s : List ℕ) → changed < 100 → Bytes 
 unfolding listingText
 listing-length changed s h b = by-reading (reading s) refl
   where
-    by-reading : (q : Reading) → reading s ≡ q → length (listingText changed q) ≤ longestText
+    by-reading : (q : Parsed) → reading s ≡ q → length (listingText changed q) ≤ longestText
     by-reading (Plots ps end) q =
         let a : length (field changed newline) ≤ 3 = field-length 1 changed newline h in
         let i : length (plotsText ps) ≤ lineCount ps * 17 = plots-length 0 ps (reading-sound s ps end q .rising) (read-numbers s ps end q b) in

@@ -19,7 +19,7 @@ use Rattle.lists.specs.Choice.{pick}
 use Rattle.plot.specs.Layout.{Plot, noLine, linesHold, linesOf, recordOf}
 use Rattle.plot.specs.Grammar.{Plots, longest, reading}
 use Rattle.plot.specs.Answers.{lastNumber, seek, located, partOf, asked, added, payloadAfter, payloadWith}
-use Rattle.plot.specs.Canonical.{Holds, Rising, bytesOf, payloadOf, Written, addThen, addAll, WrittenAsRead, ReadAsWritten, AcceptedForm, AskedIsRecord, AddedIsFound, RefusedUnchanged, FullExactly}
+use Rattle.plot.specs.Canonical.{Holds, Rising, bytesOf, payloadOf, AllAdded, addThen, addAll, WrittenAsRead, ReadAsWritten, AcceptedForm, AskedIsRecord, AddedIsFound, RefusedUnchanged, FullExactly}
 use Rattle.plot.proofs.Lists.{part-front, part-middle}
 use Rattle.plot.proofs.Complete.{payload-length, reading-complete}
 use Rattle.plot.proofs.Entries.{reading-reads, reading-sound, taken, added-plots, add-here, add-full, left-as-was, located-plots, Within, within-seek}
@@ -105,9 +105,9 @@ module _ (size : ℕ) (ps : List Plot) (p : Plot) (r : Rising 0 (ps ++ p ∷ [])
       ∙ ap (λ (t : List ℕ). t ++ replicate (size - length (bytesOf (ps ++ p ∷ []))) 0) (sym (bytes-snoc ps p)))
 
 -- plots added in turn to the payload of plots
-write-all : (size : ℕ) (ps qs : List Plot) → Rising 0 (ps ++ qs) → length (bytesOf (ps ++ qs)) ≤ size → size ≤ longest → addAll qs (payloadOf size ps) ≡ Written (payloadOf size (ps ++ qs))
+write-all : (size : ℕ) (ps qs : List Plot) → Rising 0 (ps ++ qs) → length (bytesOf (ps ++ qs)) ≤ size → size ≤ longest → addAll qs (payloadOf size ps) ≡ AllAdded (payloadOf size (ps ++ qs))
 unfolding addAll
-write-all size ps [] r f l = ap (λ (xs : List Plot). Written (payloadOf size xs)) (sym (append-nil ps))
+write-all size ps [] r f l = ap (λ (xs : List Plot). AllAdded (payloadOf size xs)) (sym (append-nil ps))
 write-all size ps (p ∷ qs) r f l =
     let e : ps ++ (p ∷ []) ++ qs ≡ ps ++ p ∷ qs = append-snoc ps p qs in
     let r′ : Rising 0 (ps ++ (p ∷ []) ++ qs) = rw e r in
@@ -117,7 +117,7 @@ write-all size ps (p ∷ qs) r f l =
     ap (λ (a : Added). addThen (addAll qs) a (payloadWith p (payloadOf size ps))) (add-one-more size ps p r″ f″ l)
     ∙ ap (addAll qs) (write-one-more size ps p r″ f″ l)
     ∙ write-all size (ps ++ p ∷ []) qs r′ f′ l
-    ∙ ap (λ (xs : List Plot). Written (payloadOf size xs)) e
+    ∙ ap (λ (xs : List Plot). AllAdded (payloadOf size xs)) e
 
 no-bytes-yet : (size : ℕ) → replicate size 0 ≡ payloadOf size []
 no-bytes-yet size = ap (λ (n : ℕ). replicate n 0) (sym (sub-zero size))
@@ -125,7 +125,7 @@ no-bytes-yet size = ap (λ (n : ℕ). replicate n 0) (sym (sub-zero size))
 pub written-as-read : WrittenAsRead
 written-as-read s ps end b q =
     let i = reading-sound s ps end q in
-    ap (addAll ps) (no-bytes-yet (length s)) ∙ write-all (length s) [] ps (i .rising) (i .fits) (reading-reads s ps end q .0) ∙ ap Written (sym (i .form b))
+    ap (addAll ps) (no-bytes-yet (length s)) ∙ write-all (length s) [] ps (i .rising) (i .fits) (reading-reads s ps end q .0) ∙ ap AllAdded (sym (i .form b))
 
 -- an added plot makes the plots one more
 more-plots : (size : ℕ) (ps : List Plot) (p : Plot) (start : ℕ) → Rising 0 ps → length (bytesOf ps) ≤ size → size ≤ longest → added p (payloadOf size ps) ≡ added-as.At start
@@ -143,11 +143,11 @@ more-plots size ps p start r f l e =
 -- reading back what adding qs in turn has written after ps
 abbrev ReadsOn : ℕ → List Plot → Type 0
 ReadsOn size qs =
-    (ps : List Plot) (s : List ℕ) → Rising 0 ps → length (bytesOf ps) ≤ size → addAll qs (payloadOf size ps) ≡ Written s
+    (ps : List Plot) (s : List ℕ) → Rising 0 ps → length (bytesOf ps) ≤ size → addAll qs (payloadOf size ps) ≡ AllAdded s
     → reading s ≡ Plots (ps ++ qs) (length (bytesOf (ps ++ qs)))
 
 read-more : (size : ℕ) (p : Plot) (qs ps : List Plot) (s : List ℕ) → size ≤ longest → ReadsOn size qs → Rising 0 ps → length (bytesOf ps) ≤ size
-    → (a : Added) → added p (payloadOf size ps) ≡ a → addThen (addAll qs) a (payloadWith p (payloadOf size ps)) ≡ Written s
+    → (a : Added) → added p (payloadOf size ps) ≡ a → addThen (addAll qs) a (payloadWith p (payloadOf size ps)) ≡ AllAdded s
     → reading s ≡ Plots (ps ++ p ∷ qs) (length (bytesOf (ps ++ p ∷ qs)))
 read-more size p qs ps s l ih r f (added-as.At start) e h =
     let m = more-plots size ps p start r f l e in

@@ -20,7 +20,7 @@ use Rattle.plot.specs.declared.Refusal.the-variants.{WrongLength, BadMar
 use Rattle.plot.specs.declared.Step.{Step}
 use Rattle.plot.specs.declared.Step.the-variants.{Record, End, Refused}
 use Rattle.plot.specs.Layout.{Plot, mark, headerLength, plotOf, countOf, recordLength, within, noLine, lineHolds, linesHold, linesOf, recordOf}
-use Rattle.plot.specs.Grammar.{allZero, agree, headAt, stepAt, Reading, Plots, Stopped, onto, readStep, readFrom, longest, reading}
+use Rattle.plot.specs.Grammar.{allZero, agree, headAt, stepAt, Parsed, Plots, Stopped, onto, readStep, readFrom, longest, reading}
 use Rattle.plot.specs.Answers.{numberOf, placeOf}
 use Rattle.plot.specs.Canonical.{Rising, bytesOf}
 use Rattle.plot.proofs.Cases.{pick-out, Whole, whole, plotHere}
@@ -111,11 +111,11 @@ stops-at at s =
     P : Step → Type 0
     P = StopsAt at
 
-abbrev StopsWithin : ℕ → Reading → Type 0
+abbrev StopsWithin : ℕ → Parsed → Type 0
 StopsWithin size (Plots ps end) = Unit
 StopsWithin size (Stopped r) = placeOf r ≤ size
 
-stops-onto : (size : ℕ) (p : Plot) (q : Reading) → StopsWithin size q → StopsWithin size (onto p q)
+stops-onto : (size : ℕ) (p : Plot) (q : Parsed) → StopsWithin size q → StopsWithin size (onto p q)
 stops-onto size p (Plots ps end) h = tt
 stops-onto size p (Stopped r) h = h
 

@@ -20,16 +20,16 @@ use Rattle.lists.specs.Bytes.{Bytes}
 use Rattle.lists.specs.Choice.{pick}
 use Rattle.lists.proofs.Bytes.{getD-byte, drop-bytes}
 use Rattle.plot.specs.Layout.{Plot, mark, headerLength, plotOf, countOf, recordLength, noLine, lineHolds, linesHold, linesOf, recordOf}
-use Rattle.plot.specs.Grammar.{allZero, agree, headAt, stepAt, Reading, Plots, Stopped, onto, readFrom}
+use Rattle.plot.specs.Grammar.{allZero, agree, headAt, stepAt, Parsed, Plots, Stopped, onto, readFrom}
 use Rattle.plot.specs.Canonical.{Holds, Rising, bytesOf, payloadOf}
 use Rattle.plot.proofs.Lists.{front-five, low-byte, high-byte}
 use Rattle.plot.proofs.Cases.{pick-out, Whole, whole, read-end, read-refused, plotHere, read-lines, read-order, read-on}
 
 -- a reading that stopped gave no plots
-pub not-stopped : (q : Reading) (r : Refusal) (ps : List Plot) (end : ℕ) → q ≡ Stopped r → q ≡ Plots ps end → ⊥
+pub not-stopped : (q : Parsed) (r : Refusal) (ps : List Plot) (end : ℕ) → q ≡ Stopped r → q ≡ Plots ps end → ⊥
 not-stopped q r ps end a b = let z : _≡_ {A = ℕ} 0 1 = cc in omega arith
 
-onto-out : (p : Plot) (q : Reading) (ps : List Plot) (end : ℕ) → onto p q ≡ Plots ps end → (qs : List Plot) × (ps ≡ p ∷ qs) × (q ≡ Plots qs end)
+onto-out : (p : Plot) (q : Parsed) (ps : List Plot) (end : ℕ) → onto p q ≡ Plots ps end → (qs : List Plot) × (ps ≡ p ∷ qs) × (q ≡ Plots qs end)
 onto-out p (Plots qs e) ps end h =
     let a : ps ≡ p ∷ qs = cc in
     let b : e ≡ end = cc in

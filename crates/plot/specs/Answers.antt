@@ -6,7 +6,7 @@ use lib.ListN.{length, take, drop}
 use lib.Dec.{ltb, leb, eqb}
 use Rattle.lists.specs.Choice.{pick}
 use Rattle.plot.specs.Layout.{Plot, noLine, linesHold, linesOf, recordOf}
-use Rattle.plot.specs.Grammar.{Reading, Plots, Stopped, reading}
+use Rattle.plot.specs.Grammar.{Parsed, Plots, Stopped, reading}
 use Rattle.plot.specs.declared.Refusal.{Refusal}
 use Rattle.plot.specs.declared.Refusal.the-variants.{WrongLength, BadMark, CutShort, BadTally, PlotOrder, NoSuchPlot, Full}
 use Rattle.plot.specs.declared.Checked.{Checked}
@@ -41,7 +41,7 @@ lastNumber last [] = last
 lastNumber last (p ∷ ps) = lastNumber (p .number) ps
 
 -- the check: the place after the last record with the last plot's number, or the refusal
-unfoldable pub checkedOf : ℕ → Reading → Checked
+unfoldable pub checkedOf : ℕ → Parsed → Checked
 checkedOf last (Plots ps end) = checked-as.Accepted (record { at = end; last = lastNumber last ps })
 checkedOf last (Stopped r) = checked-as.Refused r
 
@@ -54,7 +54,7 @@ seek n at [] = located-as.Refused NoSuchPlot
 seek n at (p ∷ ps) = pick (eqb (p .number) n) (located-as.At at (length (recordOf p))) (seek n (at + length (recordOf p)) ps)
 
 -- the companion of asking: first byte and length of the record, or the refusal
-unfoldable pub locatedOf : ℕ → Reading → Located
+unfoldable pub locatedOf : ℕ → Parsed → Located
 locatedOf n (Plots ps end) = seek n 0 ps
 locatedOf n (Stopped r) = located-as.Refused r
 
@@ -75,8 +75,8 @@ linesFit lines = pick (ltb 120 (length lines)) false (eqb (length lines % 3) 0)
 
 -- adding a plot to an accepted payload of `size` bytes, whose last record ends at `end` and has the number `last`: "the length of the lent lines ..,
 -- then that the plot number isn't 0, then the lines in turn, then the rise, then the space"; full "when the record needs more bytes than are left"
-unfoldable pub addedAt : ℕ → ℕ → ℕ → Plot → Added
-addedAt size end last p =
+unfoldable pub roomFor : ℕ → ℕ → ℕ → Plot → Added
+roomFor size end last p =
     pick (not (linesFit (p .lines))) (added-as.Refused (BadTally end))
     (pick (eqb (p .number) 0) (added-as.Refused (BadTally end))
     (pick (not (linesHold noLine (linesOf p) (p .lines))) (added-as.Refused (BadTally end))
@@ -85,8 +85,8 @@ addedAt size end last p =
     (added-as.At end)))))
 
 -- "Adding a plot checks the payload, then ..": its own refusal first
-unfoldable pub addedOf : List ℕ → Plot → Reading → Added
-addedOf s p (Plots ps end) = addedAt (length s) end (lastNumber 0 ps) p
+unfoldable pub addedOf : List ℕ → Plot → Parsed → Added
+addedOf s p (Plots ps end) = roomFor (length s) end (lastNumber 0 ps) p
 addedOf s p (Stopped r) = added-as.Refused r
 
 abbrev pub added : Plot → List ℕ → Added

@@ -39,24 +39,24 @@ payloadOf size ps = bytesOf ps ++ replicate (size - length (bytesOf ps)) 0
 
 -- plots added one after the other, as long as none is refused
 pub data Outcome : Type 0 where
-  Written : List ℕ → Outcome
-  NotWritten : Refusal → Outcome
+  AllAdded : List ℕ → Outcome
+  NotAdded : Refusal → Outcome
 
 abbrev pub addThen : (List ℕ → Outcome) → Added → List ℕ → Outcome
 addThen rest (added-as.At start) s = rest s
-addThen rest (added-as.Refused r) s = NotWritten r
+addThen rest (added-as.Refused r) s = NotAdded r
 
 unfoldable pub addAll : List Plot → List ℕ → Outcome
-addAll [] s = Written s
+addAll [] s = AllAdded s
 addAll (p ∷ ps) s = addThen (addAll ps) (added p s) (payloadWith p s)
 
 -- R6: an accepted payload is byte for byte what adding its plots in turn to zeros gives ..
 abbrev pub WrittenAsRead : Type 0
-WrittenAsRead = (s : List ℕ) (ps : List Plot) (end : ℕ) → Bytes s → reading s ≡ Plots ps end → addAll ps (replicate (length s) 0) ≡ Written s
+WrittenAsRead = (s : List ℕ) (ps : List Plot) (end : ℕ) → Bytes s → reading s ≡ Plots ps end → addAll ps (replicate (length s) 0) ≡ AllAdded s
 
 -- .. and reading what was so written gives those plots, with the place after the last record
 abbrev pub ReadAsWritten : Type 0
-ReadAsWritten = (size : ℕ) (ps : List Plot) (s : List ℕ) → size ≤ longest → addAll ps (replicate size 0) ≡ Written s → reading s ≡ Plots ps (length (bytesOf ps))
+ReadAsWritten = (size : ℕ) (ps : List Plot) (s : List ℕ) → size ≤ longest → addAll ps (replicate size 0) ≡ AllAdded s → reading s ≡ Plots ps (length (bytesOf ps))
 
 -- R1: a payload is accepted exactly if it is the records of plots that hold and rise, then zeros
 abbrev pub AcceptedForm : Type 0

@@ -14,8 +14,8 @@ use tally::lines_hold;
 ghost use mathlib.Core.Path.{_≡_};
 ghost use Prim.Native.Nat.{_≤_};
 ghost use lib.ListN.{drop};
-ghost use Rattle.plot.specs.Grammar.{stepAt, reading, Accepted};
-ghost use Rattle.plot.specs.Answers.{numberOf, placeOf, checked, located, asked, addedAt, added, payloadWith};
+ghost use Rattle.plot.specs.Grammar.{stepAt, reading, Readable};
+ghost use Rattle.plot.specs.Answers.{numberOf, placeOf, checked, located, asked, roomFor, added, payloadWith};
 
 const LONGEST: usize = 4048;
 
@@ -160,7 +160,7 @@ pub fn check(payload: &[u8]) -> Checked
 
 // The record of `plot` in an accepted payload.
 fn search(payload: &[u8], plot: u16) -> Located
-    requires { ⌜ Accepted (reading (now payload)) ⌝ }
+    requires { ⌜ Readable (reading (now payload)) ⌝ }
     ensures { λ r. ⌜ r ≡ located plot (now (payload .entry)) ⌝ }
 {
     let mut c = Cursor { at: 0, last: 0 };
@@ -214,7 +214,7 @@ pub fn ask<'a>(payload: &'a [u8], plot: u16) -> &'a [u8]
 // Where a plot would be added to an accepted payload of `size` bytes, c being the cursor after its last record; or why it is not.
 fn room(size: usize, c: Cursor, plot: u16, lines: &[u8]) -> Added
     requires { ⌜ c .at ≤ size ⌝ }
-    ensures { λ r. ⌜ r ≡ addedAt size (c .at) (c .last) (record { number = plot; lines = now (lines .entry) }) ⌝ }
+    ensures { λ r. ⌜ r ≡ roomFor size (c .at) (c .last) (record { number = plot; lines = now (lines .entry) }) ⌝ }
 {
     let at = c.at;
     if 120 < lines.len() {
