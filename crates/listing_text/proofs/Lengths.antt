@@ -12,7 +12,7 @@ use Rattle.lists.specs.Bytes.{Bytes}
 use Rattle.lists.proofs.Test.{pick-of}
 use Rattle.plot.specs.Layout.{Plot, noLine, lineOf, lineHolds, linesHold, linesOf}
 use Rattle.plot.specs.Grammar.{Parsed, Plots, Stopped, reading, longest}
-use Rattle.plot.specs.Answers.{numberOf, placeOf}
+use Rattle.plot.specs.Numbers.{numberOf, placeOf}
 use Rattle.plot.specs.Canonical.{Rising}
 use Rattle.plot.specs.declared.Line.{Line}
 use Rattle.plot.proofs.Sound.{pick-true}

@@ -8,7 +8,7 @@ use lib.ListN.{length, take, drop, take-append-drop}
 use lib.Seq.{drop-drop}
 use Rattle.plot.specs.Layout.{Plot, headerLength, lineOf}
 use Rattle.plot.specs.Grammar.{stepAt, Parsed, Plots, Stopped, readFrom}
-use Rattle.plot.specs.Answers.{numberOf, placeOf}
+use Rattle.plot.specs.Numbers.{numberOf, placeOf}
 use Rattle.plot.specs.declared.Line.{Line}
 use Rattle.plot.specs.declared.Cursor.{Cursor}
 use Rattle.plot.specs.declared.Refusal.{Refusal}

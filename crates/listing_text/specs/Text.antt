@@ -7,7 +7,7 @@ use lib.Dec.{ltb}
 use Rattle.lists.specs.Choice.{pick}
 use Rattle.plot.specs.Layout.{Plot, lineOf, linesOf}
 use Rattle.plot.specs.Grammar.{Parsed, Plots, Stopped, longest}
-use Rattle.plot.specs.Answers.{numberOf, placeOf}
+use Rattle.plot.specs.Numbers.{numberOf, placeOf}
 use Rattle.plot.specs.declared.Line.{Line}
 
 -- a number in decimal: its last digit after the digits of the rest. A number has no more digits than its own value and one.

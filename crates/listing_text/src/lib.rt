@@ -140,6 +140,6 @@ pub fn write_listing(payload: &[u8], changed: usize, out: &mut [u8]) -> usize
 {
     match plot::check(payload) {
         Checked::Accepted(_) => put_answer(out, payload, changed),
-        Checked::Refused(r) => write_refusal(plot::number(r), plot::place(r), out),
+        Checked::Refused(r) => write_refusal(r.number(), r.place(), out),
     }
 }

@@ -21,7 +21,7 @@ use Rattle.plot.specs.declared.Step.{Step}
 use Rattle.plot.specs.declared.Step.the-variants.{Record, End, Refused}
 use Rattle.plot.specs.Layout.{Plot, mark, headerLength, plotOf, countOf, recordLength, within, noLine, lineHolds, linesHold, linesOf, recordOf}
 use Rattle.plot.specs.Grammar.{allZero, agree, headAt, stepAt, Parsed, Plots, Stopped, onto, readStep, readFrom, longest, reading}
-use Rattle.plot.specs.Answers.{numberOf, placeOf}
+use Rattle.plot.specs.Numbers.{numberOf, placeOf}
 use Rattle.plot.specs.Canonical.{Rising, bytesOf}
 use Rattle.plot.proofs.Cases.{pick-out, Whole, whole, plotHere}
 use Rattle.plot.proofs.Entries.{reading-reads, reading-sound}

@@ -1,4 +1,4 @@
--- What each entry answers and leaves in the lent payload, from the reading of it (R3, R4, R5), and the number and place of each refusal (E5).
+-- What each entry answers and leaves in the lent payload, from the reading of it (R3, R4, R5). Numbers.antt has the numbers of each answer.
 use Prim.Native.Nat.{ℕ, _+_, _-_, _%_}
 use mathlib.Core.Bool.{Bool, false, not}
 use mathlib.Core.List.{List, [], _∷_, _++_}
@@ -7,8 +7,7 @@ use lib.Dec.{ltb, leb, eqb}
 use Rattle.lists.specs.Choice.{pick}
 use Rattle.plot.specs.Layout.{Plot, noLine, linesHold, linesOf, recordOf}
 use Rattle.plot.specs.Grammar.{Parsed, Plots, Stopped, reading}
-use Rattle.plot.specs.declared.Refusal.{Refusal}
-use Rattle.plot.specs.declared.Refusal.the-variants.{WrongLength, BadMark, CutShort, BadTally, PlotOrder, NoSuchPlot, Full}
+use Rattle.plot.specs.declared.Refusal.the-variants.{BadTally, PlotOrder, NoSuchPlot, Full}
 use Rattle.plot.specs.declared.Checked.{Checked}
 use Rattle.plot.specs.declared.Checked.the-variants as checked-as
 use Rattle.plot.specs.declared.Located.{Located}
@@ -16,31 +15,12 @@ use Rattle.plot.specs.declared.Located.the-variants as located-as
 use Rattle.plot.specs.declared.Added.{Added}
 use Rattle.plot.specs.declared.Added.the-variants as added-as
 
--- "A refusal returns its number and one place" (the table of document 01)
-abbrev pub numberOf : Refusal → ℕ
-numberOf WrongLength = 2
-numberOf (BadMark place) = 5
-numberOf (CutShort place) = 6
-numberOf (BadTally place) = 7
-numberOf (PlotOrder place) = 8
-numberOf NoSuchPlot = 9
-numberOf (Full place) = 10
-
-abbrev pub placeOf : Refusal → ℕ
-placeOf WrongLength = 0
-placeOf (BadMark place) = place
-placeOf (CutShort place) = place
-placeOf (BadTally place) = place
-placeOf (PlotOrder place) = place
-placeOf NoSuchPlot = 0
-placeOf (Full place) = place
-
 -- the number of the last plot, or `last` if there is none
 abbrev pub lastNumber : ℕ → List Plot → ℕ
 lastNumber last [] = last
 lastNumber last (p ∷ ps) = lastNumber (p .number) ps
 
--- the check: the place after the last record with the last plot's number, or the refusal
+-- checking a payload: the place after the last record with the last plot's number, or the refusal
 unfoldable pub checkedOf : ℕ → Parsed → Checked
 checkedOf last (Plots ps end) = checked-as.Accepted (record { at = end; last = lastNumber last ps })
 checkedOf last (Stopped r) = checked-as.Refused r
@@ -53,7 +33,7 @@ unfoldable pub seek : ℕ → ℕ → List Plot → Located
 seek n at [] = located-as.Refused NoSuchPlot
 seek n at (p ∷ ps) = pick (eqb (p .number) n) (located-as.At at (length (recordOf p))) (seek n (at + length (recordOf p)) ps)
 
--- the companion of asking: first byte and length of the record, or the refusal
+-- "a companion entry gives the number and place for the same input": first byte and length of the record, or the refusal
 unfoldable pub locatedOf : ℕ → Parsed → Located
 locatedOf n (Plots ps end) = seek n 0 ps
 locatedOf n (Stopped r) = located-as.Refused r
@@ -61,7 +41,7 @@ locatedOf n (Stopped r) = located-as.Refused r
 abbrev pub located : ℕ → List ℕ → Located
 located n s = locatedOf n (reading s)
 
--- asking: "the record, mark to last line, as a part of the caller's payload"; "After a refusal that part is empty"
+-- asking for a plot: "the record, mark to last line, as a part of the caller's payload"; "After a refusal that part is empty"
 unfoldable pub partOf : Located → List ℕ → List ℕ
 partOf (located-as.At start len) s = take len (drop start s)
 partOf (located-as.Refused r) s = []

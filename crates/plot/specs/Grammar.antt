@@ -35,11 +35,11 @@ headAt at s =
     (pick (eqb (plotOf s) 0) (Refused (BadTally at))
     (Record (at + headerLength) (countOf s) (record { at = at + recordLength (countOf s); last = plotOf s }))))))
 
--- "If the byte there is zero, all later bytes must be zero. Otherwise the checks are ..": at the payload's end stands no byte, which counts as zero
+-- what stands at "a place in the payload": "If the byte there is zero, all later bytes must be zero. Otherwise the checks are ..": at the payload's end stands no byte, which counts as zero
 unfoldable pub stepAt : ℕ → List ℕ → Step
 stepAt at s = pick (eqb (getD s 0 0) 0) (pick (allZero s) End (Refused (BadMark at))) (headAt at s)
 
--- all plots with the place after the last record, or the first refusal
+-- what a reading gives: all plots with the place after the last record, or the refusal that "ends the reading"
 pub data Parsed : Type 0 where
   Plots : List Plot → ℕ → Parsed
   Stopped : Refusal → Parsed
