@@ -3,9 +3,14 @@ use mathlib.Core.Path.{_≡_, ap, _∙_}
 use mathlib.Core.Bool.{Bool}
 use Prim.Native.Nat.{ℕ}
 use Rattle.lists.specs.Choice.{pick}
+use Rattle.capi.specs.Numbers.{valueOrPlace}
 
 pub number-of : {A : Type 0} (f : A → ℕ) (x y : A) (z : ℕ) → z ≡ f x → x ≡ y → z ≡ f y
 number-of f x y z made same = made ∙ ap f same
+
+pub value-of : {A : Type 0} (number value place : A → ℕ) (x y : A) (n v p z : ℕ) → n ≡ number x → v ≡ value x → p ≡ place x → z ≡ valueOrPlace n v p → x ≡ y
+    → z ≡ valueOrPlace (number y) (value y) (place y)
+value-of {A = A} number value place x y n v p z en ev ep ez same = number-of (λ (a : A). valueOrPlace (number a) (value a) (place a)) x y z (ez ∙ rw (en, ev, ep)) same
 
 pub tested : (t u : Bool) → t ≡ u → pick {A = ℕ} t 0 1 ≡ pick u 0 1
 tested t u same = ap (λ (x : Bool). pick {A = ℕ} x 0 1) same

@@ -1,6 +1,7 @@
 -- The numbers that the C interface hands out for each answer (E5): document 01's number, 0 where accepted, and the values and places beside it. A
 -- number that an answer does not have is 0.
 use Prim.Native.Nat.{ℕ}
+use lib.Dec.{eqb}
 use Rattle.lists.specs.Choice.{pick}
 use Rattle.block.specs.Profile.{inRange}
 use Rattle.block.specs.declared.Profile.{Profile}
@@ -9,13 +10,6 @@ use Rattle.block.specs.declared.Checked.the-variants as block-checks
 use Rattle.sheet.specs.Sheet.{refusalNumber, refusalPlace}
 use Rattle.sheet.specs.declared.Reading.{Reading}
 use Rattle.sheet.specs.declared.Reading.the-variants as readings
-use Rattle.plot.specs.Answers.{numberOf, placeOf}
-use Rattle.plot.specs.declared.Checked as plot-checked
-use Rattle.plot.specs.declared.Checked.the-variants as plot-checks
-use Rattle.plot.specs.declared.Located.{Located}
-use Rattle.plot.specs.declared.Located.the-variants as locates
-use Rattle.plot.specs.declared.Added.{Added}
-use Rattle.plot.specs.declared.Added.the-variants as adds
 
 -- "A profile is five numbers"
 abbrev pub profileOf : ℕ → ℕ → ℕ → ℕ → ℕ → Profile
@@ -45,33 +39,6 @@ abbrev pub readingChanged : Reading → ℕ
 readingChanged (readings.Accepted changed) = changed
 readingChanged (readings.Refused r) = 0
 
--- checking a payload: the refusal's number and place, or the byte after the last record
-abbrev pub payloadNumber : plot-checked.Checked → ℕ
-payloadNumber (plot-checks.Accepted c) = 0
-payloadNumber (plot-checks.Refused r) = numberOf r
-
-abbrev pub payloadPlace : plot-checked.Checked → ℕ
-payloadPlace (plot-checks.Accepted c) = c .at
-payloadPlace (plot-checks.Refused r) = placeOf r
-
--- the companion of asking: the refusal's number and place, or first byte and length of the record
-abbrev pub locatedNumber : Located → ℕ
-locatedNumber (locates.At start len) = 0
-locatedNumber (locates.Refused r) = numberOf r
-
-abbrev pub locatedPlace : Located → ℕ
-locatedPlace (locates.At start len) = start
-locatedPlace (locates.Refused r) = placeOf r
-
-abbrev pub locatedLength : Located → ℕ
-locatedLength (locates.At start len) = len
-locatedLength (locates.Refused r) = 0
-
--- adding a plot: the refusal's number and place, or the record's first byte
-abbrev pub addedNumber : Added → ℕ
-addedNumber (adds.At start) = 0
-addedNumber (adds.Refused r) = numberOf r
-
-abbrev pub addedPlace : Added → ℕ
-addedPlace (adds.At start) = start
-addedPlace (adds.Refused r) = placeOf r
+-- of a plot entry, through one reference: a value where the answer is accepted, and the place of the refusal where it is not
+abbrev pub valueOrPlace : ℕ → ℕ → ℕ → ℕ
+valueOrPlace number value place = pick (eqb number 0) value place

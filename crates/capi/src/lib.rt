@@ -7,14 +7,13 @@ ghost use Rattle.block.specs.Block.{verdictNumber, verdictStart, verdictLength,
 ghost use Rattle.sheet.specs.Sheet as sheets;
 ghost use Rattle.plot.specs.Grammar.{reading};
 ghost use Rattle.plot.specs.Answers.{checked, located, added, payloadWith};
+ghost use Rattle.plot.specs.Numbers.{payloadNumber, payloadPlace, payloadEnd, locatedNumber, locatedPlace, locatedStart, locatedLength, addedNumber, addedPlace, addedStart};
 ghost use Rattle.listing_text.specs.Text.{listingText, refusalText};
 ghost use Rattle.listing_text.specs.Buffer.{textIn, textLength};
 ghost use Rattle.listing.specs.Listing.{listed};
-ghost use Rattle.capi.specs.Numbers.{profileOf, profileNumber, cleanFlag, readingNumber, readingPlace, readingChanged, payloadNumber, payloadPlace, locatedNumber, locatedPlace, locatedLength, addedNumber, addedPlace};
+ghost use Rattle.capi.specs.Numbers.{profileOf, profileNumber, cleanFlag, readingNumber, readingPlace, readingChanged, valueOrPlace};
 use block::Checked;
 use block::Profile;
-use plot::Added;
-use plot::Located;
 use sheet::Reading;
 
 fn profile_of(n: usize, r: usize, b: usize, limit: usize, depth: usize) -> Profile
@@ -69,67 +68,14 @@ fn reading_changed(a: Reading) -> usize
     }
 }
 
-fn payload_number(a: plot::Checked) -> usize
-    ensures { λ z. ⌜ z ≡ payloadNumber a ⌝ }
+// Where accepted a value, and else the place of the refusal.
+fn value_or_place(number: usize, value: usize, place: usize) -> usize
+    ensures { λ z. ⌜ z ≡ valueOrPlace number value place ⌝ }
 {
-    match a {
-        plot::Checked::Accepted(_) => 0,
-        plot::Checked::Refused(r) => plot::number(r) as usize,
+    if number == 0 {
+        return value;
     }
-}
-
-fn payload_place(a: plot::Checked) -> usize
-    ensures { λ z. ⌜ z ≡ payloadPlace a ⌝ }
-{
-    match a {
-        plot::Checked::Accepted(c) => c.at,
-        plot::Checked::Refused(r) => plot::place(r),
-    }
-}
-
-fn located_number(a: Located) -> usize
-    ensures { λ z. ⌜ z ≡ locatedNumber a ⌝ }
-{
-    match a {
-        Located::At { start: _, len: _ } => 0,
-        Located::Refused(r) => plot::number(r) as usize,
-    }
-}
-
-fn located_place(a: Located) -> usize
-    ensures { λ z. ⌜ z ≡ locatedPlace a ⌝ }
-{
-    match a {
-        Located::At { start, len: _ } => start,
-        Located::Refused(r) => plot::place(r),
-    }
-}
-
-fn located_length(a: Located) -> usize
-    ensures { λ z. ⌜ z ≡ locatedLength a ⌝ }
-{
-    match a {
-        Located::At { start: _, len } => len,
-        Located::Refused(_) => 0,
-    }
-}
-
-fn added_number(a: Added) -> usize
-    ensures { λ z. ⌜ z ≡ addedNumber a ⌝ }
-{
-    match a {
-        Added::At(_) => 0,
-        Added::Refused(r) => plot::number(r) as usize,
-    }
-}
-
-fn added_place(a: Added) -> usize
-    ensures { λ z. ⌜ z ≡ addedPlace a ⌝ }
-{
-    match a {
-        Added::At(start) => start,
-        Added::Refused(r) => plot::place(r),
-    }
+    place
 }
 
 fn profile_number(p: Profile) -> usize
@@ -275,11 +221,12 @@ pub extern "C" fn tishwabe_read_sheet(
 #[no_mangle]
 pub extern "C" fn tishwabe_check_payload(payload: &[u8], place: &mut usize) -> usize
     ensures { λ z. ⌜ z ≡ payloadNumber (checked (now (payload .entry))) ⌝ }
-    ensures { λ _. ⌜ now (place .exit) ≡ payloadPlace (checked (now (payload .entry))) ⌝ }
+    ensures { λ _. ⌜ (let a = checked (now (payload .entry)) in now (place .exit) ≡ valueOrPlace (payloadNumber a) (payloadEnd a) (payloadPlace a)) ⌝ }
 {
     let answer = plot::check(payload);
-    *place = payload_place(answer);
-    payload_number(answer)
+    let number = answer.number() as usize;
+    *place = value_or_place(number, answer.end(), answer.place());
+    number
 }
 
 /// Asks for a plot: the record's first byte, or the place of the refusal, and the record's length.
@@ -291,13 +238,14 @@ pub extern "C" fn tishwabe_ask(
     length: &mut usize,
 ) -> usize
     ensures { λ z. ⌜ z ≡ locatedNumber (located plot (now (payload .entry))) ⌝ }
-    ensures { λ _. ⌜ now (place .exit) ≡ locatedPlace (located plot (now (payload .entry))) ⌝ }
+    ensures { λ _. ⌜ (let a = located plot (now (payload .entry)) in now (place .exit) ≡ valueOrPlace (locatedNumber a) (locatedStart a) (locatedPlace a)) ⌝ }
     ensures { λ _. ⌜ now (length .exit) ≡ locatedLength (located plot (now (payload .entry))) ⌝ }
 {
-    let answer = plot::locate(payload, plot);
-    *place = located_place(answer);
-    *length = located_length(answer);
-    located_number(answer)
+    let found = plot::locate(payload, plot);
+    let number = found.number() as usize;
+    *place = value_or_place(number, found.start(), found.place());
+    *length = found.length();
+    number
 }
 
 /// Adds a plot: the record's first byte, or the place of the refusal.
@@ -309,12 +257,13 @@ pub extern "C" fn tishwabe_add(
     place: &mut usize,
 ) -> usize
     ensures { λ z. ⌜ z ≡ addedNumber (added (record { number = plot; lines = now (lines .entry) }) (now (payload .entry))) ⌝ }
-    ensures { λ _. ⌜ now (place .exit) ≡ addedPlace (added (record { number = plot; lines = now (lines .entry) }) (now (payload .entry))) ⌝ }
+    ensures { λ _. ⌜ (let a = added (record { number = plot; lines = now (lines .entry) }) (now (payload .entry)) in now (place .exit) ≡ valueOrPlace (addedNumber a) (addedStart a) (addedPlace a)) ⌝ }
     ensures { λ _. ⌜ now (payload .exit) ≡ payloadWith (record { number = plot; lines = now (lines .entry) }) (now (payload .entry)) ⌝ }
 {
     let answer = plot::add(payload, plot, lines);
-    *place = added_place(answer);
-    added_number(answer)
+    let number = answer.number() as usize;
+    *place = value_or_place(number, answer.start(), answer.place());
+    number
 }
 
 /// The lister's text for a payload, as far as `text` goes: the number of bytes written.

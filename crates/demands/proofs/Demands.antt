@@ -6,7 +6,7 @@ use Rattle.block.proofs.Promises.{clean-iff, uncorrectable-iff, ambiguous-iff, 
 use Rattle.sheet.proofs.Theorems.{written-blocks, read-results}
 use Rattle.sheet.proofs.Promise.{sheet-promise}
 use Rattle.sheet.proofs.Examples.{starred-examples}
-use Rattle.plot.proofs.Canonical.{written-as-read, read-as-written, accepted-form, asked-is-record, added-is-found, refused-unchanged, full-exactly}
+use Rattle.plot.proofs.Canonical.{written-as-read, read-as-written, accepted-form, asked-is-record, asked-refused, added-is-found, refused-unchanged, full-exactly}
 use Rattle.plot.proofs.Sheets.{written-reads-as-plots, same-after-damage}
 use Rattle.listing.proofs.Theorems.{whole-text}
 use Rattle.demands.specs.Demands.{Demands}
@@ -22,6 +22,7 @@ demands = record {
     written = written-as-read;
     read = read-as-written;
     asked = asked-is-record;
+    asked-refused = asked-refused;
     added = added-is-found;
     unchanged = refused-unchanged;
     full = full-exactly;

@@ -6,7 +6,7 @@ use Rattle.block.specs.Promises.{WritesCodeword, CleanIff, UncorrectableIff, Am
 use Rattle.sheet.specs.Theorems.{WrittenBlocks, ReadResults}
 use Rattle.sheet.specs.Promise.{SheetPromise}
 use Rattle.sheet.specs.Examples.{StarredExamples}
-use Rattle.plot.specs.Canonical.{WrittenAsRead, ReadAsWritten, AcceptedForm, AskedIsRecord, AddedIsFound, RefusedUnchanged, FullExactly}
+use Rattle.plot.specs.Canonical.{WrittenAsRead, ReadAsWritten, AcceptedForm, AskedIsRecord, AskedRefused, AddedIsFound, RefusedUnchanged, FullExactly}
 use Rattle.plot.specs.Sheets.{WrittenReadsAsPlots, SameAfterDamage}
 use Rattle.listing.specs.Theorems.{WholeText}
 
@@ -23,6 +23,7 @@ pub record Demand1 : Type 0 where
   pub written : WrittenAsRead
   pub read : ReadAsWritten
   pub asked : AskedIsRecord
+  pub asked-refused : AskedRefused
   pub added : AddedIsFound
   pub unchanged : RefusedUnchanged
   pub full : FullExactly

@@ -20,7 +20,7 @@ use Rattle.sheet.specs.declared.Refusal.the-variants.{BadProfile, WrongLength, 
 use Rattle.plot.specs.Grammar.{reading}
 use Rattle.listing_text.specs.Text.{refusalText, listingText}
 use Rattle.listing_text.specs.Buffer.{textIn, textLength}
-use Rattle.listing.specs.Listing.{profileOf, readText, scratchOf, payloadOf, sheetText, listed}
+use Rattle.listing.specs.Listing.{profileOf, sheetAnswerText, scratchBuffer, payloadBuffer, sheetText, listed}
 
 pub profile-is : (input : List ℕ) (n r b limit depth : ℕ) → n ≡ getD input 0 0 → r ≡ getD input 1 0 → b ≡ getD input 2 0 → limit ≡ getD input 3 0 → depth ≡ getD input 4 0
     → _≡_ {A = Profile} (record { n = n; r = r; b = b; limit = limit; depth = depth }) (profileOf input)
@@ -35,18 +35,18 @@ number-small (Block n verdicts.Uncorrectable) = omega arith
 number-small (Block n verdicts.Ambiguous) = omega arith
 number-small (Block n (verdicts.Corrected s f)) = omega arith
 
-module _ (p : Profile) (sheet scratch payload : List ℕ) (es : scratch ≡ scratchOf p) (ep : payload ≡ payloadOf p) where
+module _ (p : Profile) (sheet scratch payload : List ℕ) (es : scratch ≡ scratchBuffer p) (ep : payload ≡ payloadBuffer p) where
   pub text-refused : (r : Refusal) → Refused r ≡ readAnswer p sheet scratch payload → refusalText (refusalNumber r) (refusalPlace r) ≡ sheetText p sheet
-  unfolding sheetText readText
+  unfolding sheetText sheetAnswerText
   text-refused r e =
-      ap (λ (a : Reading). readText a (readPayload p sheet (scratchOf p) (payloadOf p)))
+      ap (λ (a : Reading). sheetAnswerText a (readPayload p sheet (scratchBuffer p) (payloadBuffer p)))
       (e ∙ ap₂ (λ (s q : List ℕ). readAnswer p sheet s q) es ep)
 
   pub text-accepted : (changed : ℕ) (back : List ℕ) → Accepted changed ≡ readAnswer p sheet scratch payload → back ≡ readPayload p sheet scratch payload
       → listingText changed (reading back) ≡ sheetText p sheet
-  unfolding sheetText readText
+  unfolding sheetText sheetAnswerText
   text-accepted changed back e b =
-      ap₂ readText (e ∙ ap₂ (λ (s q : List ℕ). readAnswer p sheet s q) es ep) (b ∙ ap₂ (λ (s q : List ℕ). readPayload p sheet s q) es ep)
+      ap₂ sheetAnswerText (e ∙ ap₂ (λ (s q : List ℕ). readAnswer p sheet s q) es ep) (b ∙ ap₂ (λ (s q : List ℕ). readPayload p sheet s q) es ep)
 
 -- a profile that is out of range is refusal 1, whatever the sheet
 bad-answer : (p : Profile) (sheet scratch payload : List ℕ) → inRange p ≡ false → Refused BadProfile ≡ readAnswer p sheet scratch payload
@@ -57,7 +57,7 @@ pub listed-bad : (input : List ℕ) → 5 ≤ length input → inRange (profileO
 unfolding listed
 listed-bad input l e =
     rw (le-ltb (length input) 5 l)
-    (text-refused (profileOf input) (drop 5 input) (scratchOf (profileOf input)) (payloadOf (profileOf input)) refl refl BadProfile (bad-answer (profileOf input) (drop 5 input) _ _ e))
+    (text-refused (profileOf input) (drop 5 input) (scratchBuffer (profileOf input)) (payloadBuffer (profileOf input)) refl refl BadProfile (bad-answer (profileOf input) (drop 5 input) _ _ e))
 
 pub listed-short : (input : List ℕ) → length input < 5 → refusalText 1 0 ≡ listed input
 unfolding listed

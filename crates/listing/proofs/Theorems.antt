@@ -10,7 +10,7 @@ use lib.ListN.{length, getD, take, drop, length-replicate}
 use borrow.Author.Tests.{eqb-true, eqb-false}
 use Rattle.lists.proofs.Test.{true-or-false, true-false, pick-of}
 use Rattle.lists.specs.Bytes.{Bytes}
-use Rattle.lists.proofs.Bytes.{getD-byte, bytes-of, drop-bytes}
+use Rattle.lists.proofs.Bytes.{bytes-of, drop-bytes}
 use Rattle.block.specs.Profile.{InRange, inRange, messageLength}
 use Rattle.block.specs.declared.Profile.{Profile}
 use Rattle.block.proofs.Ranges.{in-range}
@@ -26,51 +26,51 @@ use Rattle.sheet.proofs.Accepted.{payload-back, changed-most}
 use Rattle.listing_text.specs.Buffer.{textIn, textLength}
 use Rattle.listing_text.proofs.Fill.{fill-whole}
 use Rattle.listing_text.proofs.Lengths.{refusal-length, listing-length}
-use Rattle.listing.specs.Listing.{profileOf, scratchOf, payloadOf, sheetText, listed}
+use Rattle.listing.specs.Listing.{profileOf, scratchBuffer, payloadBuffer, sheetText, listed}
 use Rattle.listing.specs.Theorems.{longestText, TextFits, WholeText}
 use Rattle.listing.proofs.Cases.{number-small, text-refused, text-accepted}
 
 module _ (p : Profile) (sheet : List ℕ) where
   -- the reader's answer on the lister's own buffers
   abbrev answer : Reading
-  answer = readAnswer p sheet (scratchOf p) (payloadOf p)
+  answer = readAnswer p sheet (scratchBuffer p) (payloadBuffer p)
 
   refused-fits : (r : Refusal) → answer ≡ Refused r → refusalPlace r ≤ 16 → length (sheetText p sheet) ≤ longestText
   refused-fits r q h =
-      rw (sym (text-refused p sheet (scratchOf p) (payloadOf p) refl refl r (sym q)))
+      rw (sym (text-refused p sheet (scratchBuffer p) (payloadBuffer p) refl refl r (sym q)))
       (refusal-length (refusalNumber r) (refusalPlace r) (omega (arith, number-small r)) (omega arith))
 
   -- a sheet of D × n bytes under a profile in range
-  module _ (v : InRange p) (h : Lent p sheet (scratchOf p) (payloadOf p)) where
+  module _ (v : InRange p) (h : Lent p sheet (scratchBuffer p) (payloadBuffer p)) where
     answer-fits : (a : Reading) → answer ≡ a → length (sheetText p sheet) ≤ longestText
     answer-fits (Refused BadProfile) q = refused-fits BadProfile q zero-le
     answer-fits (Refused WrongLength) q = refused-fits WrongLength q zero-le
     answer-fits (Refused (Block d w)) q =
-        refused-fits (Block d w) q (omega (arith, read-results p sheet (scratchOf p) (payloadOf p) v h .refused d w .0 q .below, v .depth-most))
+        refused-fits (Block d w) q (omega (arith, read-results p sheet (scratchBuffer p) (payloadBuffer p) v h .refused d w .0 q .below, v .depth-most))
     answer-fits (Accepted changed) q =
-        let back = readPayload p sheet (scratchOf p) (payloadOf p) in
-        let bytes = payload-back p sheet (scratchOf p) (payloadOf p) v h changed q .bytes in
-        let most : changed ≤ p .depth = changed-most p sheet (scratchOf p) (payloadOf p) v h changed q in
-        rw (sym (text-accepted p sheet (scratchOf p) (payloadOf p) refl refl changed back (sym q) refl))
-        (listing-length changed back (omega (arith, v .depth-most)) (λ i. getD-byte back i bytes))
+        let back = readPayload p sheet (scratchBuffer p) (payloadBuffer p) in
+        let bytes = payload-back p sheet (scratchBuffer p) (payloadBuffer p) v h changed q .bytes in
+        let most : changed ≤ p .depth = changed-most p sheet (scratchBuffer p) (payloadBuffer p) v h changed q in
+        rw (sym (text-accepted p sheet (scratchBuffer p) (payloadBuffer p) refl refl changed back (sym q) refl))
+        (listing-length changed back (omega (arith, v .depth-most)) bytes)
 
   -- refusals 1 and 2
-  early-fits : (number : ℕ) → ReadRefused p sheet (scratchOf p) (payloadOf p) number → length (sheetText p sheet) ≤ longestText
+  early-fits : (number : ℕ) → ReadRefused p sheet (scratchBuffer p) (payloadBuffer p) number → length (sheetText p sheet) ≤ longestText
   early-fits number z = refused-fits (z .refusal) (z .answer) (omega (arith, z .placed))
 
   -- any sheet of bytes under any profile
   sheet-fits : Bytes sheet → length (sheetText p sheet) ≤ longestText
   sheet-fits b =
       ⊎-elim (λ t. by-length (in-range p .0 t))
-      (λ f. early-fits 1 (early-refusals p .read-1 sheet (scratchOf p) (payloadOf p) (λ v. true-false (in-range p .1 v) f))) (true-or-false (inRange p))
+      (λ f. early-fits 1 (early-refusals p .read-1 sheet (scratchBuffer p) (payloadBuffer p) (λ v. true-false (in-range p .1 v) f))) (true-or-false (inRange p))
     where
-      lent : length sheet ≡ p .depth * p .n → Lent p sheet (scratchOf p) (payloadOf p)
+      lent : length sheet ≡ p .depth * p .n → Lent p sheet (scratchBuffer p) (payloadBuffer p)
       lent e = record { cells = record { count = e; bytes = b }; scratch-count = length-replicate (p .depth * p .n) 0; out-count = length-replicate (p .depth * messageLength p) 0 }
 
       by-length : InRange p → length (sheetText p sheet) ≤ longestText
       by-length v =
           ⊎-elim (λ t. answer-fits v (lent (eqb-true _ _ t)) answer refl)
-          (λ f. early-fits 2 (early-refusals p .read-2 sheet (scratchOf p) (payloadOf p) v (λ e. eqb-false _ _ f (e .0))))
+          (λ f. early-fits 2 (early-refusals p .read-2 sheet (scratchBuffer p) (payloadBuffer p) v (λ e. eqb-false _ _ f (e .0))))
           (true-or-false (eqb (length sheet) (p .depth * p .n)))
 
 pub text-fits : TextFits

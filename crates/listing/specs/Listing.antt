@@ -18,19 +18,19 @@ abbrev pub profileOf : List ℕ → Profile
 profileOf input = record { n = getD input 0 0; r = getD input 1 0; b = getD input 2 0; limit = getD input 3 0; depth = getD input 4 0 }
 
 -- L2: the text for a sheet that was read, with the payload that came back
-unfoldable pub readText : Reading → List ℕ → List ℕ
-readText (Refused r) payload = refusalText (refusalNumber r) (refusalPlace r)
-readText (Accepted changed) payload = listingText changed (reading payload)
+unfoldable pub sheetAnswerText : Reading → List ℕ → List ℕ
+sheetAnswerText (Refused r) payload = refusalText (refusalNumber r) (refusalPlace r)
+sheetAnswerText (Accepted changed) payload = listingText changed (reading payload)
 
 -- the reader's buffers, zero
-abbrev pub scratchOf : Profile → List ℕ
-scratchOf p = replicate (p .depth * p .n) 0
+abbrev pub scratchBuffer : Profile → List ℕ
+scratchBuffer p = replicate (p .depth * p .n) 0
 
-abbrev pub payloadOf : Profile → List ℕ
-payloadOf p = replicate (p .depth * messageLength p) 0
+abbrev pub payloadBuffer : Profile → List ℕ
+payloadBuffer p = replicate (p .depth * messageLength p) 0
 
 unfoldable pub sheetText : Profile → List ℕ → List ℕ
-sheetText p sheet = readText (readAnswer p sheet (scratchOf p) (payloadOf p)) (readPayload p sheet (scratchOf p) (payloadOf p))
+sheetText p sheet = sheetAnswerText (readAnswer p sheet (scratchBuffer p) (payloadBuffer p)) (readPayload p sheet (scratchBuffer p) (payloadBuffer p))
 
 -- L1: the whole answer
 unfoldable pub listed : List ℕ → List ℕ

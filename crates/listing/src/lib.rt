@@ -6,7 +6,7 @@ ghost use lib.ListN.{length, replicate};
 ghost use Rattle.block.specs.Profile.{InRange};
 ghost use Rattle.listing_text.specs.Buffer.{textIn, textLength};
 ghost use Rattle.sheet.specs.Sheet.{refusalNumber};
-ghost use Rattle.listing.specs.Listing.{profileOf, scratchOf, payloadOf, sheetText, listed};
+ghost use Rattle.listing.specs.Listing.{profileOf, scratchBuffer, payloadBuffer, sheetText, listed};
 use block::Profile;
 use sheet::Reading;
 use sheet::Refusal;
@@ -45,7 +45,7 @@ fn list_read(
     payload: &mut [u8],
     out: &mut [u8],
 ) -> usize
-    requires { ⌜ (now scratch ≡ scratchOf p) × (now payload ≡ payloadOf p) ⌝ }
+    requires { ⌜ (now scratch ≡ scratchBuffer p) × (now payload ≡ payloadBuffer p) ⌝ }
     ensures { λ r. ⌜ r ≡ textLength (sheetText p (now (sheet .entry))) (now (out .entry)) ⌝ }
     ensures { λ _. ⌜ now (out .exit) ≡ textIn (sheetText p (now (sheet .entry))) (now (out .entry)) ⌝ }
 {

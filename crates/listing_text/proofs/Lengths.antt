@@ -8,11 +8,12 @@ use mathlib.Core.List.{List, [], _∷_}
 use lib.ListN.{length, drop, length-append}
 use lib.Dec.{ltb, lit<}
 use borrow.Author.Tests.{lt-ltb}
+use Rattle.lists.specs.Bytes.{Bytes}
 use Rattle.lists.proofs.Test.{pick-of}
 use Rattle.plot.specs.Layout.{Plot, noLine, lineOf, lineHolds, linesHold, linesOf}
-use Rattle.plot.specs.Grammar.{Reading, Plots, Stopped, reading, longest}
-use Rattle.plot.specs.Answers.{numberOf, placeOf}
-use Rattle.plot.specs.Canonical.{Rising, Bytes}
+use Rattle.plot.specs.Grammar.{Parsed, Plots, Stopped, reading, longest}
+use Rattle.plot.specs.Numbers.{numberOf, placeOf}
+use Rattle.plot.specs.Canonical.{Rising}
 use Rattle.plot.specs.declared.Line.{Line}
 use Rattle.plot.proofs.Sound.{pick-true}
 use Rattle.plot.proofs.Entries.{reading-sound}
@@ -78,7 +79,7 @@ pub listing-length : (changed : ℕ) (s : List ℕ) → changed < 100 → Bytes 
 unfolding listingText
 listing-length changed s h b = by-reading (reading s) refl
   where
-    by-reading : (q : Reading) → reading s ≡ q → length (listingText changed q) ≤ longestText
+    by-reading : (q : Parsed) → reading s ≡ q → length (listingText changed q) ≤ longestText
     by-reading (Plots ps end) q =
         let a : length (field changed newline) ≤ 3 = field-length 1 changed newline h in
         let i : length (plotsText ps) ≤ lineCount ps * 17 = plots-length 0 ps (reading-sound s ps end q .rising) (read-numbers s ps end q b) in

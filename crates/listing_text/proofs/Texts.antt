@@ -7,8 +7,8 @@ use mathlib.Core.List.{List, [], _∷_, _++_}
 use lib.ListN.{length, take, drop, take-append-drop}
 use lib.Seq.{drop-drop}
 use Rattle.plot.specs.Layout.{Plot, headerLength, lineOf}
-use Rattle.plot.specs.Grammar.{stepAt, Reading, Plots, Stopped, readFrom}
-use Rattle.plot.specs.Answers.{numberOf, placeOf}
+use Rattle.plot.specs.Grammar.{stepAt, Parsed, Plots, Stopped, readFrom}
+use Rattle.plot.specs.Numbers.{numberOf, placeOf}
 use Rattle.plot.specs.declared.Line.{Line}
 use Rattle.plot.specs.declared.Cursor.{Cursor}
 use Rattle.plot.specs.declared.Refusal.{Refusal}
@@ -16,7 +16,7 @@ use Rattle.plot.specs.declared.Step.the-variants.{Record}
 use Rattle.plot.proofs.Cases.{bounds, past-header}
 use Rattle.plot.proofs.Sound.{lines-here, count-here}
 use Rattle.plot.proofs.Entries.{go}
-use Rattle.listing_text.specs.Text.{newline, field, header, mended, lineText, linesText, plotsText, readText, refusalText, listingText}
+use Rattle.listing_text.specs.Text.{newline, field, header, mended, lineText, linesText, plotsText, plotLines, refusalText, listingText}
 
 -- k lines of which i are passed
 module _ (plot k i : ℕ) (s : List ℕ) (from : ℕ) where
@@ -72,15 +72,15 @@ pub plots-none : (ps : List Plot) → ps ≡ [] → plotsText ps ≡ []
 unfolding plotsText
 plots-none ps e = rw e
 
-pub read-plots : (q : Reading) (ps : List Plot) (end : ℕ) → q ≡ Plots ps end → readText q ≡ plotsText ps
-unfolding readText
+pub read-plots : (q : Parsed) (ps : List Plot) (end : ℕ) → q ≡ Plots ps end → plotLines q ≡ plotsText ps
+unfolding plotLines
 read-plots q ps end e = rw e
 
-pub listing-plots : (changed : ℕ) (q : Reading) (ps : List Plot) (end : ℕ) → q ≡ Plots ps end
-    → header ++ (readText q ++ (mended ++ field changed newline)) ≡ listingText changed q
-unfolding listingText readText
+pub listing-plots : (changed : ℕ) (q : Parsed) (ps : List Plot) (end : ℕ) → q ≡ Plots ps end
+    → header ++ (plotLines q ++ (mended ++ field changed newline)) ≡ listingText changed q
+unfolding listingText plotLines
 listing-plots changed q ps end e = rw e
 
-pub listing-stopped : (changed : ℕ) (q : Reading) (r : Refusal) → q ≡ Stopped r → refusalText (numberOf r) (placeOf r) ≡ listingText changed q
+pub listing-stopped : (changed : ℕ) (q : Parsed) (r : Refusal) → q ≡ Stopped r → refusalText (numberOf r) (placeOf r) ≡ listingText changed q
 unfolding listingText
 listing-stopped changed q r e = rw e

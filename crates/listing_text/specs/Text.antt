@@ -6,8 +6,8 @@ use lib.ListN.{length, drop}
 use lib.Dec.{ltb}
 use Rattle.lists.specs.Choice.{pick}
 use Rattle.plot.specs.Layout.{Plot, lineOf, linesOf}
-use Rattle.plot.specs.Grammar.{Reading, Plots, Stopped, longest}
-use Rattle.plot.specs.Answers.{numberOf, placeOf}
+use Rattle.plot.specs.Grammar.{Parsed, Plots, Stopped, longest}
+use Rattle.plot.specs.Numbers.{numberOf, placeOf}
 use Rattle.plot.specs.declared.Line.{Line}
 
 -- a number in decimal: its last digit after the digits of the rest. A number has no more digits than its own value and one.
@@ -53,15 +53,15 @@ plotsText [] = []
 plotsText (p ∷ ps) = linesText (p .number) (linesOf p) (p .lines) ++ plotsText ps
 
 -- the lines of an accepted payload
-unfoldable pub readText : Reading → List ℕ
-readText (Plots ps end) = plotsText ps
-readText (Stopped r) = []
+unfoldable pub plotLines : Parsed → List ℕ
+plotLines (Plots ps end) = plotsText ps
+plotLines (Stopped r) = []
 
 unfoldable pub refusalText : ℕ → ℕ → List ℕ
 refusalText number place = refused ++ (field number comma ++ field place newline)
 
 -- the whole answer for a payload, of a sheet with `changed` blocks changed
-unfoldable pub listingText : ℕ → Reading → List ℕ
+unfoldable pub listingText : ℕ → Parsed → List ℕ
 listingText changed (Plots ps end) = header ++ (plotsText ps ++ (mended ++ field changed newline))
 listingText changed (Stopped r) = refusalText (numberOf r) (placeOf r)
 

@@ -7,8 +7,8 @@ use plot::Step;
 ghost use mathlib.Core.Path.{_≡_};
 ghost use Prim.Native.Nat.{_+_, _*_, _-_, _≤_, _<_, _/_, _%_};
 ghost use lib.ListN.{length, drop};
-ghost use Rattle.plot.specs.Grammar.{reading, Accepted};
-ghost use Rattle.listing_text.specs.Text.{decimal, field, lineText, linesText, readText, refusalText, listingText};
+ghost use Rattle.plot.specs.Grammar.{reading, Readable};
+ghost use Rattle.listing_text.specs.Text.{decimal, field, lineText, linesText, plotLines, refusalText, listingText};
 ghost use Rattle.listing_text.specs.Buffer.{buffer, putByte, putAll, textIn, textLength};
 
 fn put(out: &mut [u8], at: usize, b: u8) -> usize
@@ -91,8 +91,8 @@ fn put_lines(
 
 // The lines of every plot of an accepted payload.
 fn put_plots(out: &mut [u8], at: usize, payload: &[u8]) -> usize
-    requires { ⌜ Accepted (reading (now payload)) ⌝ }
-    ensures { λ r. ⌜ buffer (now (out .exit)) r ≡ putAll (readText (reading (now (payload .entry)))) (buffer (now (out .entry)) at) ⌝ }
+    requires { ⌜ Readable (reading (now payload)) ⌝ }
+    ensures { λ r. ⌜ buffer (now (out .exit)) r ≡ putAll (plotLines (reading (now (payload .entry)))) (buffer (now (out .entry)) at) ⌝ }
 {
     let mut end = at;
     let mut c = Cursor { at: 0, last: 0 };
@@ -124,7 +124,7 @@ pub fn write_refusal(number: u8, place: usize, out: &mut [u8]) -> usize
 
 // Header, lines and the number of blocks changed, of an accepted payload.
 fn put_answer(out: &mut [u8], payload: &[u8], changed: usize) -> usize
-    requires { ⌜ Accepted (reading (now payload)) ⌝ }
+    requires { ⌜ Readable (reading (now payload)) ⌝ }
     ensures { λ r. ⌜ buffer (now (out .exit)) r ≡ putAll (listingText changed (reading (now (payload .entry)))) (buffer (now (out .entry)) 0) ⌝ }
 {
     let a = put_text(out, 0, b"plot,species,class,count\n");
@@ -140,6 +140,6 @@ pub fn write_listing(payload: &[u8], changed: usize, out: &mut [u8]) -> usize
 {
     match plot::check(payload) {
         Checked::Accepted(_) => put_answer(out, payload, changed),
-        Checked::Refused(r) => write_refusal(plot::number(r), plot::place(r), out),
+        Checked::Refused(r) => write_refusal(r.number(), r.place(), out),
     }
 }

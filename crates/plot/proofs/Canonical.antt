@@ -3,14 +3,13 @@
 use Prim.Native.Nat.{ℕ, zero, suc, zero-le, _+_, _*_, _-_, _%_, _<_, _≤_}
 use native.Mathlib.Omega.{arith}
 use native.Mathlib.Nat.{div-add-mod', mul-mod-left, sub-zero, add-zero, zero-add}
-use mathlib.Core.Path.{_≡_, refl, sym, ap, _∙_}
+use mathlib.Core.Path.{_≡_, refl, sym, ap, subst, _∙_}
 use mathlib.Core.Bool.{Bool, true, false}
 use mathlib.Core.List.{List, [], _∷_, _++_, append-assoc, append-nil}
 use lib.ListN.{length, take, drop, replicate, length-append}
 use lib.Seq.{take-at, drop-append-add, append-snoc}
 use lib.Dec.{ltb, eqb}
 use borrow.Author.Tests.{eq-eqb, ne-eqb, ltb-true, ltb-false}
-use Rattle.plot.specs.declared.Refusal.the-variants.{Full}
 use Rattle.plot.specs.declared.Located.{Located}
 use Rattle.plot.specs.declared.Located.the-variants as located-as
 use Rattle.plot.specs.declared.Added.{Added}
@@ -19,10 +18,12 @@ use Rattle.lists.specs.Choice.{pick}
 use Rattle.plot.specs.Layout.{Plot, noLine, linesHold, linesOf, recordOf}
 use Rattle.plot.specs.Grammar.{Plots, longest, reading}
 use Rattle.plot.specs.Answers.{lastNumber, seek, located, partOf, asked, added, payloadAfter, payloadWith}
-use Rattle.plot.specs.Canonical.{Holds, Rising, bytesOf, payloadOf, Written, addThen, addAll, WrittenAsRead, ReadAsWritten, AcceptedForm, AskedIsRecord, AddedIsFound, RefusedUnchanged, FullExactly}
+use Rattle.plot.specs.Numbers.{numberOf, placeOf, locatedNumber, locatedStart, locatedLength, addedNumber, addedPlace, addedStart}
+use Rattle.plot.specs.Canonical.{Holds, Rising, bytesOf, payloadOf, AllAdded, NotAdded, addThen, addAll, WrittenAsRead, ReadAsWritten, AcceptedForm, Found, AskedIsRecord, AskedRefused, AddedIsFound, RefusedUnchanged, FullExactly}
 use Rattle.plot.proofs.Lists.{part-front, part-middle}
 use Rattle.plot.proofs.Complete.{payload-length, reading-complete}
-use Rattle.plot.proofs.Entries.{reading-reads, reading-sound, taken, added-plots, add-here, add-full, left-as-was, located-plots, Within, within-seek}
+use Rattle.plot.proofs.Entries.{reading-reads, reading-sound, taken, added-plots, add-here, add-full, left-as-was, located-plots, part-refused, Within, within-seek}
+use Rattle.plot.proofs.Refusals.{number-some, located-refused, added-at, added-refused}
 
 -- plots in a row
 pub bytes-append : (ps qs : List Plot) → bytesOf (ps ++ qs) ≡ bytesOf ps ++ bytesOf qs
@@ -105,9 +106,9 @@ module _ (size : ℕ) (ps : List Plot) (p : Plot) (r : Rising 0 (ps ++ p ∷ [])
       ∙ ap (λ (t : List ℕ). t ++ replicate (size - length (bytesOf (ps ++ p ∷ []))) 0) (sym (bytes-snoc ps p)))
 
 -- plots added in turn to the payload of plots
-write-all : (size : ℕ) (ps qs : List Plot) → Rising 0 (ps ++ qs) → length (bytesOf (ps ++ qs)) ≤ size → size ≤ longest → addAll qs (payloadOf size ps) ≡ Written (payloadOf size (ps ++ qs))
+write-all : (size : ℕ) (ps qs : List Plot) → Rising 0 (ps ++ qs) → length (bytesOf (ps ++ qs)) ≤ size → size ≤ longest → addAll qs (payloadOf size ps) ≡ AllAdded (payloadOf size (ps ++ qs))
 unfolding addAll
-write-all size ps [] r f l = ap (λ (xs : List Plot). Written (payloadOf size xs)) (sym (append-nil ps))
+write-all size ps [] r f l = ap (λ (xs : List Plot). AllAdded (payloadOf size xs)) (sym (append-nil ps))
 write-all size ps (p ∷ qs) r f l =
     let e : ps ++ (p ∷ []) ++ qs ≡ ps ++ p ∷ qs = append-snoc ps p qs in
     let r′ : Rising 0 (ps ++ (p ∷ []) ++ qs) = rw e r in
@@ -117,7 +118,7 @@ write-all size ps (p ∷ qs) r f l =
     ap (λ (a : Added). addThen (addAll qs) a (payloadWith p (payloadOf size ps))) (add-one-more size ps p r″ f″ l)
     ∙ ap (addAll qs) (write-one-more size ps p r″ f″ l)
     ∙ write-all size (ps ++ p ∷ []) qs r′ f′ l
-    ∙ ap (λ (xs : List Plot). Written (payloadOf size xs)) e
+    ∙ ap (λ (xs : List Plot). AllAdded (payloadOf size xs)) e
 
 no-bytes-yet : (size : ℕ) → replicate size 0 ≡ payloadOf size []
 no-bytes-yet size = ap (λ (n : ℕ). replicate n 0) (sym (sub-zero size))
@@ -125,7 +126,7 @@ no-bytes-yet size = ap (λ (n : ℕ). replicate n 0) (sym (sub-zero size))
 pub written-as-read : WrittenAsRead
 written-as-read s ps end b q =
     let i = reading-sound s ps end q in
-    ap (addAll ps) (no-bytes-yet (length s)) ∙ write-all (length s) [] ps (i .rising) (i .fits) (reading-reads s ps end q .0) ∙ ap Written (sym (i .form b))
+    ap (addAll ps) (no-bytes-yet (length s)) ∙ write-all (length s) [] ps (i .rising) (i .fits) (reading-reads s ps end q .0) ∙ ap AllAdded (sym (i .form b))
 
 -- an added plot makes the plots one more
 more-plots : (size : ℕ) (ps : List Plot) (p : Plot) (start : ℕ) → Rising 0 ps → length (bytesOf ps) ≤ size → size ≤ longest → added p (payloadOf size ps) ≡ added-as.At start
@@ -143,17 +144,19 @@ more-plots size ps p start r f l e =
 -- reading back what adding qs in turn has written after ps
 abbrev ReadsOn : ℕ → List Plot → Type 0
 ReadsOn size qs =
-    (ps : List Plot) (s : List ℕ) → Rising 0 ps → length (bytesOf ps) ≤ size → addAll qs (payloadOf size ps) ≡ Written s
+    (ps : List Plot) (s : List ℕ) → Rising 0 ps → length (bytesOf ps) ≤ size → addAll qs (payloadOf size ps) ≡ AllAdded s
     → reading s ≡ Plots (ps ++ qs) (length (bytesOf (ps ++ qs)))
 
 read-more : (size : ℕ) (p : Plot) (qs ps : List Plot) (s : List ℕ) → size ≤ longest → ReadsOn size qs → Rising 0 ps → length (bytesOf ps) ≤ size
-    → (a : Added) → added p (payloadOf size ps) ≡ a → addThen (addAll qs) a (payloadWith p (payloadOf size ps)) ≡ Written s
+    → (a : Added) → added p (payloadOf size ps) ≡ a → addThen (addAll qs) a (payloadWith p (payloadOf size ps)) ≡ AllAdded s
     → reading s ≡ Plots (ps ++ p ∷ qs) (length (bytesOf (ps ++ p ∷ qs)))
 read-more size p qs ps s l ih r f (added-as.At start) e h =
     let m = more-plots size ps p start r f l e in
     ih (ps ++ p ∷ []) s (m .0) (m .1) (ap (addAll qs) (sym (write-one-more size ps p (m .0) (m .1) l)) ∙ h)
     ∙ ap (λ (xs : List Plot). Plots xs (length (bytesOf xs))) (append-snoc ps p qs)
-read-more size p qs ps s l ih r f (added-as.Refused x) e h = absurd (let y : _≡_ {A = ℕ} 0 1 = cc h in omega arith)
+read-more size p qs ps s l ih r f (added-as.Refused x) e h =
+    let not-all : NotAdded (numberOf x) (placeOf x) ≡ AllAdded s = rw (ne-eqb (numberOf x) 0 (number-some x)) at h in
+    absurd (let y : _≡_ {A = ℕ} 0 1 = cc not-all in omega arith)
 
 read-all : (size : ℕ) (qs : List Plot) → size ≤ longest → ReadsOn size qs
 unfolding addAll
@@ -172,7 +175,9 @@ accepted-form s ps b l = (
 )
 
 pub refused-unchanged : RefusedUnchanged
-refused-unchanged s p r e = sym (left-as-was s p r e)
+refused-unchanged s p h =
+    let r = added-refused (added p s) h in
+    sym (left-as-was s p (r .0) (r .1))
 
 -- the search for a plot among rising plots
 rising-under : (last : ℕ) (ps : List Plot) (p : Plot) (qs : List Plot) → Rising last (ps ++ p ∷ qs) → last < p .number
@@ -216,14 +221,19 @@ module _ (size : ℕ) (ps : List Plot) (p : Plot) (qs : List Plot) (r : Rising 0
       ∙ ap (λ (t : List ℕ). take (length (recordOf p)) (drop (length (bytesOf ps)) (bytesOf ps ++ t))) (append-assoc (recordOf p) (bytesOf qs) zeros)
       ∙ part-middle (bytesOf ps) (recordOf p) (bytesOf qs ++ zeros))
 
+  pub found-payload : Found (p .number) (payloadOf size (ps ++ p ∷ qs)) (length (bytesOf ps)) (recordOf p)
+  found-payload = record { number = ap locatedNumber located-payload; start = ap locatedStart located-payload; size = ap locatedLength located-payload; part = asked-payload }
+
 pub asked-is-record : AskedIsRecord
 asked-is-record s ps qs p end b q =
     let i = reading-sound s (ps ++ p ∷ qs) end q in
     let l = reading-reads s (ps ++ p ∷ qs) end q .0 in
-    let e = i .form b in (
-      ap (located (p .number)) e ∙ located-payload (length s) ps p qs (i .rising) (i .fits) l,
-      ap (asked (p .number)) e ∙ asked-payload (length s) ps p qs (i .rising) (i .fits) l,
-    )
+    subst (λ (t : List ℕ). Found (p .number) t (length (bytesOf ps)) (recordOf p)) (sym (i .form b)) (found-payload (length s) ps p qs (i .rising) (i .fits) l)
+
+pub asked-refused : AskedRefused
+asked-refused s n h =
+    let r = located-refused (located n s) h in
+    (sym (part-refused (located n s) s (r .0) (r .1)), ap locatedStart (r .1), ap locatedLength (r .1))
 
 -- a part within common first bytes is common
 same-part : (found : Located) (x y z : List ℕ) → Within (length x) found → partOf found (x ++ y) ≡ partOf found (x ++ z)
@@ -252,15 +262,17 @@ module _ (size : ℕ) (ps : List Plot) (p : Plot) (r : Rising 0 (ps ++ p ∷ [])
       ∙ ap (λ (t : Located). partOf t (payloadOf size ps)) (sym found)
 
 pub added-is-found : AddedIsFound
-added-is-found s p start b e =
+added-is-found s p b z =
+    let start = addedStart (added p s) in
+    let e : added p s ≡ added-as.At start = added-at (added p s) z in
     let t = taken s p start e in
     let i = reading-sound s (t .plots) start (t .reads) in
     let l = reading-reads s (t .plots) start (t .reads) .0 in
     let s-is = i .form b in
     let m = more-plots (length s) (t .plots) p start (i .rising) (i .fits) l (ap (added p) (sym s-is) ∙ e) in
     let new : payloadWith p s ≡ payloadOf (length s) (t .plots ++ p ∷ []) = ap (payloadWith p) s-is ∙ write-one-more (length s) (t .plots) p (m .0) (m .1) l in (
-      ap (located (p .number)) new ∙ located-payload (length s) (t .plots) p [] (m .0) (m .1) l ∙ ap (λ (k : ℕ). located-as.At k (length (recordOf p))) (sym (m .2)),
-      ap (asked (p .number)) new ∙ asked-payload (length s) (t .plots) p [] (m .0) (m .1) l,
+      subst (λ (x : List ℕ). Found (p .number) x start (recordOf p)) (sym new)
+          (subst (λ (k : ℕ). Found (p .number) (payloadOf (length s) (t .plots ++ p ∷ [])) k (recordOf p)) (sym (m .2)) (found-payload (length s) (t .plots) p [] (m .0) (m .1) l)),
       (λ n h. (
         ap (located n) new ∙ located-other (length s) (t .plots) p (m .0) (m .1) l n h ∙ sym (ap (located n) s-is),
         ap (asked n) new ∙ asked-other (length s) (t .plots) p (m .0) (m .1) l n h ∙ sym (ap (asked n) s-is),
@@ -270,13 +282,15 @@ added-is-found s p start b e =
 pub full-exactly : FullExactly
 full-exactly s ps end p q h r =
     let is = added-plots s p ps end (lastNumber 0 ps) q refl in (
-      (λ e. by-space (ltb (length s - end) (length (recordOf p))) refl e),
-      (λ k. sym (add-full (length s) end (lastNumber 0 ps) p (short-of p h) (thirds-of p h) (h .some) (h .hold) r (omega arith) ∙ is)),
+      (λ e. by-space (ltb (length s - end) (length (recordOf p))) refl (e .0)),
+      (λ k.
+          let a = sym (add-full (length s) end (lastNumber 0 ps) p (short-of p h) (thirds-of p h) (h .some) (h .hold) r (omega arith) ∙ is) in
+          (ap addedNumber a, ap addedPlace a)),
     )
   where
-    by-space : (t : Bool) → ltb (length s - end) (length (recordOf p)) ≡ t → added p s ≡ added-as.Refused (Full end) → length s - end < length (recordOf p)
+    by-space : (t : Bool) → ltb (length s - end) (length (recordOf p)) ≡ t → addedNumber (added p s) ≡ 10 → length s - end < length (recordOf p)
     by-space true g e = ltb-true _ _ g
     by-space false g e =
         let k : length (recordOf p) ≤ length s - end = ltb-false _ _ g in
         let a = add-here (length s) end (lastNumber 0 ps) p (short-of p h) (thirds-of p h) (h .some) (h .hold) r (omega arith) ∙ added-plots s p ps end (lastNumber 0 ps) q refl in
-        absurd (let y : _≡_ {A = ℕ} 0 1 = cc (a, e) in omega arith)
+        absurd (let y : _≡_ {A = ℕ} 0 10 = ap addedNumber a ∙ e in omega arith)

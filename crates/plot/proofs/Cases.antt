@@ -20,7 +20,7 @@ use Rattle.plot.specs.declared.Step.the-variants.{Record, End, Refused}
 use Rattle.plot.specs.declared.Checked.the-variants as checked-as
 use Rattle.lists.specs.Choice.{pick}
 use Rattle.plot.specs.Layout.{Plot, mark, headerLength, plotOf, countOf, recordLength, lineOf, noLine, within, rises, lineHolds, linesHold}
-use Rattle.plot.specs.Grammar.{allZero, agree, headAt, stepAt, Reading, Plots, Stopped, onto, readStep, readFrom, longest, reading}
+use Rattle.plot.specs.Grammar.{allZero, agree, headAt, stepAt, Parsed, Plots, Stopped, onto, readStep, readFrom, longest, reading}
 use Rattle.plot.specs.Answers.{checkedOf}
 
 -- zeros to the end
@@ -273,15 +273,15 @@ module _ (at last : ℕ) (s : List ℕ) where
           rw (e, g, lt-leb _ _ o, z)
 
 -- the check's answer, from the reading
-pub checked-stopped : (last : ℕ) (q : Reading) (r : Refusal) → q ≡ Stopped r → checked-as.Refused r ≡ checkedOf last q
+pub checked-stopped : (last : ℕ) (q : Parsed) (r : Refusal) → q ≡ Stopped r → checked-as.Refused r ≡ checkedOf last q
 unfolding checkedOf
 checked-stopped last q r e = rw e
 
-pub checked-plots : (last at : ℕ) (q : Reading) → q ≡ Plots [] at → checked-as.Accepted (record { at = at; last = last }) ≡ checkedOf last q
+pub checked-plots : (last at : ℕ) (q : Parsed) → q ≡ Plots [] at → checked-as.Accepted (record { at = at; last = last }) ≡ checkedOf last q
 unfolding checkedOf
 checked-plots last at q e = rw e
 
-pub checked-onto : (last : ℕ) (p : Plot) (r : Reading) → checkedOf last (onto p r) ≡ checkedOf (p .number) r
+pub checked-onto : (last : ℕ) (p : Plot) (r : Parsed) → checkedOf last (onto p r) ≡ checkedOf (p .number) r
 unfolding checkedOf
 checked-onto last p (Plots ps end) = refl
 checked-onto last p (Stopped r) = refl

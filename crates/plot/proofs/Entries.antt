@@ -20,8 +20,8 @@ use Rattle.plot.specs.declared.Located.the-variants as located-as
 use Rattle.plot.specs.declared.Added.the-variants as added-as
 use Rattle.lists.proofs.Test.{pick-of}
 use Rattle.plot.specs.Layout.{Plot, recordLength, noLine, linesHold, linesOf, recordOf}
-use Rattle.plot.specs.Grammar.{stepAt, Reading, Plots, Stopped, readFrom, longest, reading}
-use Rattle.plot.specs.Answers.{lastNumber, checkedOf, checked, seek, locatedOf, located, partOf, linesFit, addedAt, addedOf, added, payloadAfter, payloadWith}
+use Rattle.plot.specs.Grammar.{stepAt, Parsed, Plots, Stopped, readFrom, longest, reading}
+use Rattle.plot.specs.Answers.{lastNumber, checkedOf, checked, seek, locatedOf, located, partOf, linesFit, roomFor, addedOf, added, payloadAfter, payloadWith}
 use Rattle.plot.specs.Canonical.{bytesOf}
 use Rattle.plot.proofs.Cases.{pick-out, bounds}
 use Rattle.plot.proofs.Sound.{not-stopped, here, Accepts, accepts, length-here, Sound, sound}
@@ -37,7 +37,7 @@ pub reading-sound : (s : List ℕ) (ps : List Plot) (end : ℕ) → reading s �
 reading-sound s ps end q = sound (length s) 0 0 s ps end (le-refl _) (reading-reads s ps end q .1)
 
 -- the check tells the reading
-checked-is : (last : ℕ) (q : Reading) (c : Cursor) → checkedOf last q ≡ checked-as.Accepted c → (ps : List Plot) × (q ≡ Plots ps (c .at)) × (lastNumber last ps ≡ c .last)
+checked-is : (last : ℕ) (q : Parsed) (c : Cursor) → checkedOf last q ≡ checked-as.Accepted c → (ps : List Plot) × (q ≡ Plots ps (c .at)) × (lastNumber last ps ≡ c .last)
 unfolding checkedOf
 checked-is last (Plots ps end) c h =
     let e : record { at = end; last = lastNumber last ps } ≡ c = cc in
@@ -47,7 +47,7 @@ checked-is last (Stopped r) c h = absurd (let z : _≡_ {A = ℕ} 0 1 = cc in om
 pub checked-accepted : (s : List ℕ) (c : Cursor) → checked s ≡ checked-as.Accepted c → (ps : List Plot) × (reading s ≡ Plots ps (c .at)) × (lastNumber 0 ps ≡ c .last)
 checked-accepted s c h = checked-is 0 (reading s) c h
 
-refused-is : (last : ℕ) (q : Reading) (r : Refusal) → checkedOf last q ≡ checked-as.Refused r → q ≡ Stopped r
+refused-is : (last : ℕ) (q : Parsed) (r : Refusal) → checkedOf last q ≡ checked-as.Refused r → q ≡ Stopped r
 unfolding checkedOf
 refused-is last (Plots ps end) r h = absurd (let z : _≡_ {A = ℕ} 0 1 = cc in omega arith)
 refused-is last (Stopped r′) r h =
@@ -111,7 +111,7 @@ within-seek n at size (p ∷ ps) h =
     pick-of (Within size) (eqb (p .number) n) (located-as.At at (length (recordOf p))) (seek n (at + length (recordOf p)) ps) (omega arith)
     (within-seek n (at + length (recordOf p)) size ps (omega arith))
 
-within-read : (n : ℕ) (s : List ℕ) (q : Reading) → reading s ≡ q → Within (length s) (locatedOf n q)
+within-read : (n : ℕ) (s : List ℕ) (q : Parsed) → reading s ≡ q → Within (length s) (locatedOf n q)
 unfolding locatedOf
 within-read n s (Plots ps end) e =
     let i : length (bytesOf ps) ≤ length s = reading-sound s ps end e .fits in
@@ -142,39 +142,39 @@ part-refused l s r e = rw e
 
 -- where a plot may be added: the checks in turn
 module _ (size end last : ℕ) (p : Plot) where
-  pub add-long : 120 < length (p .lines) → added-as.Refused (BadTally end) ≡ addedAt size end last p
-  unfolding addedAt
+  pub add-long : 120 < length (p .lines) → added-as.Refused (BadTally end) ≡ roomFor size end last p
+  unfolding roomFor
   add-long h = rw (lt-ltb _ _ h)
 
   module _ (h1 : length (p .lines) ≤ 120) where
-    pub add-odd : (length (p .lines) % 3 ≡ 0 → ⊥) → added-as.Refused (BadTally end) ≡ addedAt size end last p
-    unfolding addedAt
+    pub add-odd : (length (p .lines) % 3 ≡ 0 → ⊥) → added-as.Refused (BadTally end) ≡ roomFor size end last p
+    unfolding roomFor
     add-odd h = rw (le-ltb _ _ h1, ne-eqb _ _ h)
 
     module _ (h2 : length (p .lines) % 3 ≡ 0) where
-      pub add-zero-plot : p .number ≡ 0 → added-as.Refused (BadTally end) ≡ addedAt size end last p
-      unfolding addedAt
+      pub add-zero-plot : p .number ≡ 0 → added-as.Refused (BadTally end) ≡ roomFor size end last p
+      unfolding roomFor
       add-zero-plot h = rw (le-ltb _ _ h1, eq-eqb (length (p .lines) % 3) 0 h2, eq-eqb (p .number) 0 h)
 
       module _ (h3 : p .number ≡ 0 → ⊥) where
-        pub add-lines : linesHold noLine (linesOf p) (p .lines) ≡ false → added-as.Refused (BadTally end) ≡ addedAt size end last p
-        unfolding addedAt
+        pub add-lines : linesHold noLine (linesOf p) (p .lines) ≡ false → added-as.Refused (BadTally end) ≡ roomFor size end last p
+        unfolding roomFor
         add-lines h = rw (le-ltb _ _ h1, eq-eqb (length (p .lines) % 3) 0 h2, ne-eqb (p .number) 0 h3, h)
 
         module _ (h4 : linesHold noLine (linesOf p) (p .lines) ≡ true) where
-          pub add-order : p .number ≤ last → added-as.Refused (PlotOrder end) ≡ addedAt size end last p
-          unfolding addedAt
+          pub add-order : p .number ≤ last → added-as.Refused (PlotOrder end) ≡ roomFor size end last p
+          unfolding roomFor
           add-order h = rw (le-ltb _ _ h1, eq-eqb (length (p .lines) % 3) 0 h2, ne-eqb (p .number) 0 h3, h4, le-leb _ _ h)
 
           module _ (h5 : last < p .number) where
-            pub add-full : size - end < 5 + length (p .lines) → added-as.Refused (Full end) ≡ addedAt size end last p
-            unfolding addedAt
+            pub add-full : size - end < 5 + length (p .lines) → added-as.Refused (Full end) ≡ roomFor size end last p
+            unfolding roomFor
             add-full h =
                 let k : size - end < length (recordOf p) = omega arith in
                 rw (le-ltb _ _ h1, eq-eqb (length (p .lines) % 3) 0 h2, ne-eqb (p .number) 0 h3, h4, lt-leb _ _ h5, lt-ltb (size - end) (length (recordOf p)) k)
 
-            pub add-here : 5 + length (p .lines) ≤ size - end → added-as.At end ≡ addedAt size end last p
-            unfolding addedAt
+            pub add-here : 5 + length (p .lines) ≤ size - end → added-as.At end ≡ roomFor size end last p
+            unfolding roomFor
             add-here h =
                 let k : length (recordOf p) ≤ size - end = omega arith in
                 rw (le-ltb _ _ h1, eq-eqb (length (p .lines) % 3) 0 h2, ne-eqb (p .number) 0 h3, h4, lt-leb _ _ h5, le-ltb (size - end) (length (recordOf p)) k)
@@ -194,8 +194,8 @@ pub record Taken (s : List ℕ) (p : Plot) (start : ℕ) : Type 0 where
   pub space : start + length (recordOf p) ≤ length s
 
 module _ (s : List ℕ) (p : Plot) (start : ℕ) where
-  at-place : (ps : List Plot) (end : ℕ) → reading s ≡ Plots ps end → addedAt (length s) end (lastNumber 0 ps) p ≡ added-as.At start → Taken s p start
-  unfolding addedAt
+  at-place : (ps : List Plot) (end : ℕ) → reading s ≡ Plots ps end → roomFor (length s) end (lastNumber 0 ps) p ≡ added-as.At start → Taken s p start
+  unfolding roomFor
   at-place ps end q e =
       let p1 = pick-out (not (linesFit (p .lines))) _ _ _ e (λ z. differ _ z) in
       let p2 = pick-out (eqb (p .number) 0) _ _ _ (p1 .1) (λ z. differ _ z) in
@@ -222,7 +222,7 @@ module _ (s : List ℕ) (p : Plot) (start : ℕ) where
       differ : (r : Refusal) → added-as.Refused r ≡ added-as.At start → ⊥
       differ r z = let y : _≡_ {A = ℕ} 0 1 = cc in omega arith
 
-  by-reading : (q : Reading) → reading s ≡ q → addedOf s p q ≡ added-as.At start → Taken s p start
+  by-reading : (q : Parsed) → reading s ≡ q → addedOf s p q ≡ added-as.At start → Taken s p start
   unfolding addedOf
   by-reading (Plots ps end) q e = at-place ps end q e
   by-reading (Stopped r) q e = absurd (let y : _≡_ {A = ℕ} 0 1 = cc in omega arith)
@@ -242,7 +242,7 @@ pub left-as-was : (s : List ℕ) (p : Plot) (r : Refusal) → added p s ≡ adde
 unfolding payloadAfter
 left-as-was s p r e = rw e
 
-pub added-plots : (s : List ℕ) (p : Plot) (ps : List Plot) (end last : ℕ) → reading s ≡ Plots ps end → lastNumber 0 ps ≡ last → addedAt (length s) end last p ≡ added p s
+pub added-plots : (s : List ℕ) (p : Plot) (ps : List Plot) (end last : ℕ) → reading s ≡ Plots ps end → lastNumber 0 ps ≡ last → roomFor (length s) end last p ≡ added p s
 unfolding addedOf
 added-plots s p ps end last q e = rw (q, e)
 

@@ -1,5 +1,6 @@
 pub mod Cases
 pub mod Lists
+pub mod Refusals
 pub mod Sound
 pub mod Entries
 pub mod Complete

@@ -3,14 +3,16 @@
 use Prim.Native.Nat.{ℕ, zero, suc, zero-le, _+_, _*_, _<_, _≤_, min}
 use native.Mathlib.Omega.{arith}
 use native.Mathlib.Nat.{div-lt-iff-lt-mul}
-use mathlib.Core.Path.{_≡_, refl}
+use mathlib.Core.Path.{_≡_, refl, ap, subst, _∙_}
 use mathlib.Core.Bool.{Bool, true, false, not}
 use mathlib.Core.List.{List, [], _∷_, _++_, append-assoc}
 use lib.ListN.{length, drop, getD, length-append, length-drop}
-use lib.Seq.{getD-append-add}
+use lib.Seq.{drop-at}
 use lib.Dec.{leb, ltb, eqb, lit<}
 use borrow.Author.Tests.{leb-true, ltb-false, not-false}
+use Rattle.lists.specs.Bytes.{Bytes}
 use Rattle.lists.specs.Choice.{pick}
+use Rattle.lists.proofs.Bytes.{getD-byte, drop-bytes}
 use Rattle.lists.proofs.Test.{true-false, pick-of}
 use Rattle.plot.specs.declared.Line.{Line}
 use Rattle.plot.specs.declared.Refusal.{Refusal}
@@ -18,9 +20,9 @@ use Rattle.plot.specs.declared.Refusal.the-variants.{WrongLength, BadMar
 use Rattle.plot.specs.declared.Step.{Step}
 use Rattle.plot.specs.declared.Step.the-variants.{Record, End, Refused}
 use Rattle.plot.specs.Layout.{Plot, mark, headerLength, plotOf, countOf, recordLength, within, noLine, lineHolds, linesHold, linesOf, recordOf}
-use Rattle.plot.specs.Grammar.{allZero, agree, headAt, stepAt, Reading, Plots, Stopped, onto, readStep, readFrom, longest, reading}
-use Rattle.plot.specs.Answers.{numberOf, placeOf}
-use Rattle.plot.specs.Canonical.{Rising, bytesOf, Bytes}
+use Rattle.plot.specs.Grammar.{allZero, agree, headAt, stepAt, Parsed, Plots, Stopped, onto, readStep, readFrom, longest, reading}
+use Rattle.plot.specs.Numbers.{numberOf, placeOf}
+use Rattle.plot.specs.Canonical.{Rising, bytesOf}
 use Rattle.plot.proofs.Cases.{pick-out, Whole, whole, plotHere}
 use Rattle.plot.proofs.Entries.{reading-reads, reading-sound}
 
@@ -51,10 +53,10 @@ TwoBytes (p ∷ ps) = (p .number < 65536) × TwoBytes ps
 
 two-bytes : (ps : List Plot) (t : List ℕ) → Bytes (bytesOf ps ++ t) → TwoBytes ps
 two-bytes [] t b = tt
-two-bytes (p ∷ ps) t b = (
-  div-lt-iff-lt-mul {k = 256} (lit< tt) .0 (b 3),
-  two-bytes ps t (λ i. rw getD-append-add at (rw append-assoc at (b (length (recordOf p) + i)))),
-)
+two-bytes (p ∷ ps) t b =
+    let k = length (recordOf p) in
+    let rest : drop k (recordOf p ++ bytesOf ps ++ t) ≡ bytesOf ps ++ t = ap (drop k) (append-assoc (recordOf p) (bytesOf ps) t) ∙ drop-at (recordOf p) (bytesOf ps ++ t) k refl in
+    (div-lt-iff-lt-mul {k = 256} (lit< tt) .0 (getD-byte (bytesOf (p ∷ ps) ++ t) 3 b), two-bytes ps t (subst Bytes rest (drop-bytes k (bytesOf (p ∷ ps) ++ t) b)))
 
 -- the number of lines of plots
 abbrev pub lineCount : List Plot → ℕ
@@ -109,11 +111,11 @@ stops-at at s =
     P : Step → Type 0
     P = StopsAt at
 
-abbrev StopsWithin : ℕ → Reading → Type 0
+abbrev StopsWithin : ℕ → Parsed → Type 0
 StopsWithin size (Plots ps end) = Unit
 StopsWithin size (Stopped r) = placeOf r ≤ size
 
-stops-onto : (size : ℕ) (p : Plot) (q : Reading) → StopsWithin size q → StopsWithin size (onto p q)
+stops-onto : (size : ℕ) (p : Plot) (q : Parsed) → StopsWithin size q → StopsWithin size (onto p q)
 stops-onto size p (Plots ps end) h = tt
 stops-onto size p (Stopped r) h = h
 

@@ -7,7 +7,7 @@ use mathlib.Core.Path.{_≡_, refl, sym, ap, _∙_}
 use mathlib.Core.Bool.{Bool, true, false, not}
 use mathlib.Core.List.{List, [], _∷_, _++_, append-assoc}
 use lib.ListN.{length, take, drop, getD, replicate, length-append, length-drop, take-append-drop}
-use lib.Seq.{take-append-add, length-take-le, getD-drop}
+use lib.Seq.{take-append-add, length-take-le}
 use lib.Dec.{leb, ltb, eqb, lit<}
 use borrow.Author.Tests.{leb-true, leb-false, eqb-true}
 use Rattle.plot.specs.declared.Cursor.{Cursor}
@@ -16,18 +16,20 @@ use Rattle.plot.specs.declared.Refusal.{Refusal}
 use Rattle.plot.specs.declared.Refusal.the-variants.{BadMark}
 use Rattle.plot.specs.declared.Step.{Step}
 use Rattle.plot.specs.declared.Step.the-variants.{Record, End, Refused}
+use Rattle.lists.specs.Bytes.{Bytes}
 use Rattle.lists.specs.Choice.{pick}
+use Rattle.lists.proofs.Bytes.{getD-byte, drop-bytes}
 use Rattle.plot.specs.Layout.{Plot, mark, headerLength, plotOf, countOf, recordLength, noLine, lineHolds, linesHold, linesOf, recordOf}
-use Rattle.plot.specs.Grammar.{allZero, agree, headAt, stepAt, Reading, Plots, Stopped, onto, readFrom}
-use Rattle.plot.specs.Canonical.{Holds, Rising, bytesOf, payloadOf, Bytes}
+use Rattle.plot.specs.Grammar.{allZero, agree, headAt, stepAt, Parsed, Plots, Stopped, onto, readFrom}
+use Rattle.plot.specs.Canonical.{Holds, Rising, bytesOf, payloadOf}
 use Rattle.plot.proofs.Lists.{front-five, low-byte, high-byte}
 use Rattle.plot.proofs.Cases.{pick-out, Whole, whole, read-end, read-refused, plotHere, read-lines, read-order, read-on}
 
 -- a reading that stopped gave no plots
-pub not-stopped : (q : Reading) (r : Refusal) (ps : List Plot) (end : ℕ) → q ≡ Stopped r → q ≡ Plots ps end → ⊥
+pub not-stopped : (q : Parsed) (r : Refusal) (ps : List Plot) (end : ℕ) → q ≡ Stopped r → q ≡ Plots ps end → ⊥
 not-stopped q r ps end a b = let z : _≡_ {A = ℕ} 0 1 = cc in omega arith
 
-onto-out : (p : Plot) (q : Reading) (ps : List Plot) (end : ℕ) → onto p q ≡ Plots ps end → (qs : List Plot) × (ps ≡ p ∷ qs) × (q ≡ Plots qs end)
+onto-out : (p : Plot) (q : Parsed) (ps : List Plot) (end : ℕ) → onto p q ≡ Plots ps end → (qs : List Plot) × (ps ≡ p ∷ qs) × (q ≡ Plots qs end)
 onto-out p (Plots qs e) ps end h =
     let a : ps ≡ p ∷ qs = cc in
     let b : e ≡ end = cc in
@@ -125,9 +127,10 @@ module _ (at last : ℕ) (s : List ℕ) (from count : ℕ) (next : Cursor) (e : 
       let r : recordLength count ≤ length s = room in
       let h : 5 ≤ length s = omega arith in
       let m = agree-bytes s (omega arith) (w .marked) in
+      let low : getD s 2 0 < 256 = getD-byte s 2 b in
       let body = take (count * 3) (drop 5 s) in
       let written : recordOf (here at last s from count next e) ≡ (getD s 0 0 ∷ getD s 1 0 ∷ getD s 2 0 ∷ getD s 3 0 ∷ getD s 4 0 ∷ []) ++ body =
-      rw (m .0, m .1, ← w .numbered, low-byte (getD s 2 0) (getD s 3 0) (b 2), high-byte (getD s 2 0) (getD s 3 0) (b 2), count-here, w .counted) refl in
+      rw (m .0, m .1, ← w .numbered, low-byte (getD s 2 0) (getD s 3 0) low, high-byte (getD s 2 0) (getD s 3 0) low, count-here, w .counted) refl in
       written ∙ sym (ap (take (recordLength count)) (front-five s h) ∙ take-append-add (getD s 0 0 ∷ getD s 1 0 ∷ getD s 2 0 ∷ getD s 3 0 ∷ getD s 4 0 ∷ []) (drop 5 s) (count * 3))
 
 pub zeros-are : (s : List ℕ) → allZero s ≡ true → s ≡ replicate (length s) 0
@@ -186,11 +189,10 @@ module _ (at last : ℕ) (s : List ℕ) (from count : ℕ) (next : Cursor) (e : 
   sound-form : Bytes s → s ≡ payloadOf (length s) (plot ∷ a .rest)
   sound-form b =
       let t = drop (recordLength count) s in
-      let bt : Bytes t = λ i. rw getD-drop (b (recordLength count + i)) in
       let l : length t ≡ length s - recordLength count = length-drop (recordLength count) s in
       let n : length t - length (bytesOf (a .rest)) ≡ length s - length (bytesOf (plot ∷ a .rest)) = omega (arith, sizes) in
       sym (take-append-drop (recordLength count) s)
-      ∙ ap (λ (u : List ℕ). take (recordLength count) s ++ u) (i .form bt)
+      ∙ ap (λ (u : List ℕ). take (recordLength count) s ++ u) (i .form (drop-bytes (recordLength count) s b))
       ∙ ap (λ (u : List ℕ). u ++ payloadOf (length t) (a .rest)) (sym (record-here at last s from count next e b))
       ∙ sym (append-assoc (recordOf plot) (bytesOf (a .rest)) (replicate (length t - length (bytesOf (a .rest))) 0))
       ∙ ap (λ (k : ℕ). bytesOf (plot ∷ a .rest) ++ replicate k 0) n

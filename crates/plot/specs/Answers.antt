@@ -1,4 +1,4 @@
--- What each entry answers and leaves in the lent payload, from the reading of it (R3, R4, R5), and the number and place of each refusal (E5).
+-- What each entry answers and leaves in the lent payload, from the reading of it (R3, R4, R5). Numbers.antt has the numbers of each answer.
 use Prim.Native.Nat.{ℕ, _+_, _-_, _%_}
 use mathlib.Core.Bool.{Bool, false, not}
 use mathlib.Core.List.{List, [], _∷_, _++_}
@@ -6,9 +6,8 @@ use lib.ListN.{length, take, drop}
 use lib.Dec.{ltb, leb, eqb}
 use Rattle.lists.specs.Choice.{pick}
 use Rattle.plot.specs.Layout.{Plot, noLine, linesHold, linesOf, recordOf}
-use Rattle.plot.specs.Grammar.{Reading, Plots, Stopped, reading}
-use Rattle.plot.specs.declared.Refusal.{Refusal}
-use Rattle.plot.specs.declared.Refusal.the-variants.{WrongLength, BadMark, CutShort, BadTally, PlotOrder, NoSuchPlot, Full}
+use Rattle.plot.specs.Grammar.{Parsed, Plots, Stopped, reading}
+use Rattle.plot.specs.declared.Refusal.the-variants.{BadTally, PlotOrder, NoSuchPlot, Full}
 use Rattle.plot.specs.declared.Checked.{Checked}
 use Rattle.plot.specs.declared.Checked.the-variants as checked-as
 use Rattle.plot.specs.declared.Located.{Located}
@@ -16,32 +15,13 @@ use Rattle.plot.specs.declared.Located.the-variants as located-as
 use Rattle.plot.specs.declared.Added.{Added}
 use Rattle.plot.specs.declared.Added.the-variants as added-as
 
--- "A refusal returns its number and one place" (the table of document 01)
-abbrev pub numberOf : Refusal → ℕ
-numberOf WrongLength = 2
-numberOf (BadMark place) = 5
-numberOf (CutShort place) = 6
-numberOf (BadTally place) = 7
-numberOf (PlotOrder place) = 8
-numberOf NoSuchPlot = 9
-numberOf (Full place) = 10
-
-abbrev pub placeOf : Refusal → ℕ
-placeOf WrongLength = 0
-placeOf (BadMark place) = place
-placeOf (CutShort place) = place
-placeOf (BadTally place) = place
-placeOf (PlotOrder place) = place
-placeOf NoSuchPlot = 0
-placeOf (Full place) = place
-
 -- the number of the last plot, or `last` if there is none
 abbrev pub lastNumber : ℕ → List Plot → ℕ
 lastNumber last [] = last
 lastNumber last (p ∷ ps) = lastNumber (p .number) ps
 
--- the check: the place after the last record with the last plot's number, or the refusal
-unfoldable pub checkedOf : ℕ → Reading → Checked
+-- checking a payload: the place after the last record with the last plot's number, or the refusal
+unfoldable pub checkedOf : ℕ → Parsed → Checked
 checkedOf last (Plots ps end) = checked-as.Accepted (record { at = end; last = lastNumber last ps })
 checkedOf last (Stopped r) = checked-as.Refused r
 
@@ -53,15 +33,15 @@ unfoldable pub seek : ℕ → ℕ → List Plot → Located
 seek n at [] = located-as.Refused NoSuchPlot
 seek n at (p ∷ ps) = pick (eqb (p .number) n) (located-as.At at (length (recordOf p))) (seek n (at + length (recordOf p)) ps)
 
--- the companion of asking: first byte and length of the record, or the refusal
-unfoldable pub locatedOf : ℕ → Reading → Located
+-- "a companion entry gives the number and place for the same input": first byte and length of the record, or the refusal
+unfoldable pub locatedOf : ℕ → Parsed → Located
 locatedOf n (Plots ps end) = seek n 0 ps
 locatedOf n (Stopped r) = located-as.Refused r
 
 abbrev pub located : ℕ → List ℕ → Located
 located n s = locatedOf n (reading s)
 
--- asking: "the record, mark to last line, as a part of the caller's payload"; "After a refusal that part is empty"
+-- asking for a plot: "the record, mark to last line, as a part of the caller's payload"; "After a refusal that part is empty"
 unfoldable pub partOf : Located → List ℕ → List ℕ
 partOf (located-as.At start len) s = take len (drop start s)
 partOf (located-as.Refused r) s = []
@@ -75,8 +55,8 @@ linesFit lines = pick (ltb 120 (length lines)) false (eqb (length lines % 3) 0)
 
 -- adding a plot to an accepted payload of `size` bytes, whose last record ends at `end` and has the number `last`: "the length of the lent lines ..,
 -- then that the plot number isn't 0, then the lines in turn, then the rise, then the space"; full "when the record needs more bytes than are left"
-unfoldable pub addedAt : ℕ → ℕ → ℕ → Plot → Added
-addedAt size end last p =
+unfoldable pub roomFor : ℕ → ℕ → ℕ → Plot → Added
+roomFor size end last p =
     pick (not (linesFit (p .lines))) (added-as.Refused (BadTally end))
     (pick (eqb (p .number) 0) (added-as.Refused (BadTally end))
     (pick (not (linesHold noLine (linesOf p) (p .lines))) (added-as.Refused (BadTally end))
@@ -85,8 +65,8 @@ addedAt size end last p =
     (added-as.At end)))))
 
 -- "Adding a plot checks the payload, then ..": its own refusal first
-unfoldable pub addedOf : List ℕ → Plot → Reading → Added
-addedOf s p (Plots ps end) = addedAt (length s) end (lastNumber 0 ps) p
+unfoldable pub addedOf : List ℕ → Plot → Parsed → Added
+addedOf s p (Plots ps end) = roomFor (length s) end (lastNumber 0 ps) p
 addedOf s p (Stopped r) = added-as.Refused r
 
 abbrev pub added : Plot → List ℕ → Added

@@ -35,23 +35,23 @@ headAt at s =
     (pick (eqb (plotOf s) 0) (Refused (BadTally at))
     (Record (at + headerLength) (countOf s) (record { at = at + recordLength (countOf s); last = plotOf s }))))))
 
--- "If the byte there is zero, all later bytes must be zero. Otherwise the checks are ..": at the payload's end stands no byte, which counts as zero
+-- what stands at "a place in the payload": "If the byte there is zero, all later bytes must be zero. Otherwise the checks are ..": at the payload's end stands no byte, which counts as zero
 unfoldable pub stepAt : ℕ → List ℕ → Step
 stepAt at s = pick (eqb (getD s 0 0) 0) (pick (allZero s) End (Refused (BadMark at))) (headAt at s)
 
--- all plots with the place after the last record, or the first refusal
-pub data Reading : Type 0 where
-  Plots : List Plot → ℕ → Reading
-  Stopped : Refusal → Reading
+-- what a reading gives: all plots with the place after the last record, or the refusal that "ends the reading"
+pub data Parsed : Type 0 where
+  Plots : List Plot → ℕ → Parsed
+  Stopped : Refusal → Parsed
 
 -- a plot before the plots of a reading
-abbrev pub onto : Plot → Reading → Reading
+abbrev pub onto : Plot → Parsed → Parsed
 onto p (Plots ps end) = Plots (p ∷ ps) end
 onto p (Stopped r) = Stopped r
 
 -- ".. the lines in turn ..; rise of plot numbers. The first failing check of the first failing record ends the reading.": what stands at the place,
 -- then `rest` for the records after it
-unfoldable pub readStep : (ℕ → ℕ → List ℕ → Reading) → ℕ → ℕ → List ℕ → Step → Reading
+unfoldable pub readStep : (ℕ → ℕ → List ℕ → Parsed) → ℕ → ℕ → List ℕ → Step → Parsed
 readStep rest at last s End = Plots [] at
 readStep rest at last s (Refused r) = Stopped r
 readStep rest at last s (Record from count next) =
@@ -61,7 +61,7 @@ readStep rest at last s (Record from count next) =
     (rest (next .at) (next .last) (drop (recordLength count) s))))
 
 -- "A place in the payload moves on one record at a time." A record takes five bytes or more: as many steps as bytes are enough.
-unfoldable pub readFrom : ℕ → ℕ → ℕ → List ℕ → Reading
+unfoldable pub readFrom : ℕ → ℕ → ℕ → List ℕ → Parsed
 readFrom zero at last s = Plots [] at
 readFrom (suc steps) at last s = readStep (readFrom steps) at last s (stepAt at s)
 
@@ -69,9 +69,9 @@ readFrom (suc steps) at last s = readStep (readFrom steps) at last s (stepAt at 
 abbrev pub longest : ℕ
 longest = 4048
 
-unfoldable pub reading : List ℕ → Reading
+unfoldable pub reading : List ℕ → Parsed
 reading s = pick (ltb longest (length s)) (Stopped WrongLength) (readFrom (length s) 0 0 s)
 
 -- the reading gave plots, and no refusal
-abbrev pub Accepted : Reading → Type 0
-Accepted q = (ps : List Plot) × (end : ℕ) × (q ≡ Plots ps end)
+abbrev pub Readable : Parsed → Type 0
+Readable q = (ps : List Plot) × (end : ℕ) × (q ≡ Plots ps end)

@@ -28,7 +28,7 @@ countOf s = getD s 4 0
 abbrev pub recordLength : ℕ → ℕ
 recordLength count = headerLength + count * 3
 
--- "species number .., diameter class .., tree count": the line at the front of s
+-- a tally line, "species number .., diameter class .., tree count": the one at the front of s
 abbrev pub lineOf : List ℕ → Line
 lineOf s = record { species = getD s 0 0; class = getD s 1 0; count = getD s 2 0 }
 

@@ -1,5 +1,6 @@
 pub mod Layout
 pub mod Grammar
 pub mod Answers
+pub mod Numbers
 pub mod Canonical
 pub mod Sheets

@@ -1,5 +1,6 @@
 // The plot records in a payload: a cursor that moves on one record at a time, the check of a whole payload, asking for a plot and adding one.
 // Each answer is an equation with one reading of the payload (specs/Grammar.antt).
+mod numbers;
 mod record;
 mod tally;
 
@@ -14,24 +15,26 @@ use tally::lines_hold;
 ghost use mathlib.Core.Path.{_≡_};
 ghost use Prim.Native.Nat.{_≤_};
 ghost use lib.ListN.{drop};
-ghost use Rattle.plot.specs.Grammar.{stepAt, reading, Accepted};
-ghost use Rattle.plot.specs.Answers.{numberOf, placeOf, checked, located, asked, addedAt, added, payloadWith};
+ghost use Rattle.plot.specs.Grammar.{stepAt, reading, Readable};
+ghost use Rattle.plot.specs.Answers.{checked, located, asked, roomFor, added, payloadWith};
 
 const LONGEST: usize = 4048;
 
-// A place in the payload, and the number of the last plot before it (0 if there is none).
+/// Document 01's "place in the payload", with the number of the last plot before it (0 if there is none).
 pub struct Cursor {
     pub at: usize,
     pub last: u16,
 }
 
+/// A tally line: its species number, its diameter class in centimetres and its tree count.
 pub struct Line {
     pub species: u8,
     pub class: u8,
     pub count: u8,
 }
 
-// Document 01: 2 wrong frame, 5 bad mark, 6 cut short, 7 bad tally, 8 plot order, 9 no such plot, 10 full.
+/// A refusal. Document 01 calls them wrong frame, bad mark, cut short, bad tally, plot order, no such plot and full; each has its place, but for
+/// wrong frame and no such plot, whose place is 0.
 pub enum Refusal {
     WrongLength,
     BadMark(usize),
@@ -42,7 +45,8 @@ pub enum Refusal {
     Full(usize),
 }
 
-// What stands at a cursor: a record whose header holds, with the place and number of its lines and the cursor after it.
+/// What stands at a place in the payload: a record whose checks before the lines hold, with the place and number of its lines and the place after
+/// it; zero bytes to the end; or the refusal of the first failing check.
 pub enum Step {
     Record {
         lines: usize,
@@ -53,52 +57,26 @@ pub enum Step {
     Refused(Refusal),
 }
 
-// An accepted payload has the cursor after its last record.
+/// What checking a payload answers: the place after the last record, or the refusal that ended the reading.
 pub enum Checked {
     Accepted(Cursor),
     Refused(Refusal),
 }
 
+/// What the companion entry of asking for a plot answers: the record's first byte and its length, or the refusal.
 pub enum Located {
     At { start: usize, len: usize },
     Refused(Refusal),
 }
 
+/// What adding a plot answers: the record's first byte, or the refusal.
 pub enum Added {
     At(usize),
     Refused(Refusal),
 }
 
-pub fn number(r: Refusal) -> u8
-    ensures { λ n. ⌜ n ≡ numberOf r ⌝ }
-{
-    match r {
-        Refusal::WrongLength => 2,
-        Refusal::BadMark(_) => 5,
-        Refusal::CutShort(_) => 6,
-        Refusal::BadTally(_) => 7,
-        Refusal::PlotOrder(_) => 8,
-        Refusal::NoSuchPlot => 9,
-        Refusal::Full(_) => 10,
-    }
-}
-
-pub fn place(r: Refusal) -> usize
-    ensures { λ n. ⌜ n ≡ placeOf r ⌝ }
-{
-    match r {
-        Refusal::WrongLength => 0,
-        Refusal::BadMark(p) => p,
-        Refusal::CutShort(p) => p,
-        Refusal::BadTally(p) => p,
-        Refusal::PlotOrder(p) => p,
-        Refusal::NoSuchPlot => 0,
-        Refusal::Full(p) => p,
-    }
-}
-
 impl Cursor {
-    // What stands at the cursor, with the next cursor.
+    /// Moves on one record: what stands at this place, with the place after it.
     pub fn next(self, payload: &[u8]) -> Step
         ensures { λ r. ⌜ r ≡ stepAt (self .at) (drop (self .at) (now (payload .entry))) ⌝ }
     {
@@ -116,7 +94,7 @@ impl Cursor {
     }
 }
 
-// The whole payload: records outside, lines inside; a refusal leaves both.
+/// Checks a whole payload: records outside, lines inside; the first failing check of the first failing record leaves both.
 pub fn check(payload: &[u8]) -> Checked
     ensures { λ r. ⌜ r ≡ checked (now (payload .entry)) ⌝ }
 {
@@ -160,7 +138,7 @@ pub fn check(payload: &[u8]) -> Checked
 
 // The record of `plot` in an accepted payload.
 fn search(payload: &[u8], plot: u16) -> Located
-    requires { ⌜ Accepted (reading (now payload)) ⌝ }
+    requires { ⌜ Readable (reading (now payload)) ⌝ }
     ensures { λ r. ⌜ r ≡ located plot (now (payload .entry)) ⌝ }
 {
     let mut c = Cursor { at: 0, last: 0 };
@@ -191,7 +169,7 @@ fn search(payload: &[u8], plot: u16) -> Located
     }
 }
 
-// The companion of asking: where the record of `plot` lies, or why there is none.
+/// The companion entry of asking for a plot: where its record lies, or why there is none.
 pub fn locate(payload: &[u8], plot: u16) -> Located
     ensures { λ r. ⌜ r ≡ located plot (now (payload .entry)) ⌝ }
 {
@@ -201,7 +179,7 @@ pub fn locate(payload: &[u8], plot: u16) -> Located
     }
 }
 
-// The record of `plot`, as a part of the payload; empty if there is none.
+/// Asks for a plot: its record, mark to last line, as a part of the payload and not as a copy; empty after a refusal.
 pub fn ask<'a>(payload: &'a [u8], plot: u16) -> &'a [u8]
     ensures { λ r. ⌜ now r ≡ asked plot (now (payload .entry)) ⌝ }
 {
@@ -214,7 +192,7 @@ pub fn ask<'a>(payload: &'a [u8], plot: u16) -> &'a [u8]
 // Where a plot would be added to an accepted payload of `size` bytes, c being the cursor after its last record; or why it is not.
 fn room(size: usize, c: Cursor, plot: u16, lines: &[u8]) -> Added
     requires { ⌜ c .at ≤ size ⌝ }
-    ensures { λ r. ⌜ r ≡ addedAt size (c .at) (c .last) (record { number = plot; lines = now (lines .entry) }) ⌝ }
+    ensures { λ r. ⌜ r ≡ roomFor size (c .at) (c .last) (record { number = plot; lines = now (lines .entry) }) ⌝ }
 {
     let at = c.at;
     if 120 < lines.len() {
@@ -248,7 +226,7 @@ fn place_for(payload: &[u8], plot: u16, lines: &[u8]) -> Added
     }
 }
 
-// A plot after the last record: its first byte, or why it is not added; then the payload is as it was.
+/// Adds a plot: writes its record right after the last record. After a refusal the payload is as it was.
 pub fn add(payload: &mut [u8], plot: u16, lines: &[u8]) -> Added
     ensures { λ r. ⌜ r ≡ added (record { number = plot; lines = now (lines .entry) }) (now (payload .entry)) ⌝ }
     ensures { λ _. ⌜ now (payload .exit) ≡ payloadWith (record { number = plot; lines = now (lines .entry) }) (now (payload .entry)) ⌝ }

@@ -14,7 +14,7 @@ fn list(payload: &[u8]) {
 
 fn refuse(r: Refusal) {
     let mut out = [0u8; 64];
-    let n = listing_text::write_refusal(plot::number(r), plot::place(r), &mut out);
+    let n = listing_text::write_refusal(r.number(), r.place(), &mut out);
     io::write_all(STDOUT_FILENO, &out[..n]);
 }
 

@@ -180,7 +180,7 @@ fn read_sheet(p: Profile) {
 // ---- payloads
 
 fn refused(r: plot::Refusal) {
-    two(wide(plot::number(r)), plot::place(r));
+    two(wide(r.number()), r.place());
 }
 
 fn check_payload() {

@@ -1,6 +1,6 @@
--- The answer and the payload of adding, with the two numbers of the answer.
-use Rattle.capi.specs.Numbers.{addedNumber, addedPlace}
-use Rattle.capi.proofs.Laws.{number-of}
+-- The answer and the payload of adding, with the numbers of the answer.
+use Rattle.plot.specs.Numbers.{addedNumber, addedStart, addedPlace}
+use Rattle.capi.proofs.Laws.{number-of, value-of}
 use borrow.Author.Needs.{needs}
 use Rattle.capi.proofs.tishwabe_add.Statement.{statement}
 use Rattle.capi.proofs.tishwabe_add.Tie as tie
@@ -8,21 +8,40 @@ use Rattle.capi.proofs.tishwabe_add.Tie as tie
 add-requires : tie.Need-add-requires
 add-requires c κs = search needs
 
-added-place-requires : tie.Need-added-place-requires
-added-place-requires c κs = search needs
+number-requires : tie.Need-number-requires
+number-requires c κs = search needs
 
-added-number-requires : tie.Need-added-number-requires
-added-number-requires c κs = search needs
+cast-number : tie.Need-cast-number
+cast-number c = search needs
+
+start-requires : tie.Need-start-requires
+start-requires c κs = search needs
+
+place-requires : tie.Need-place-requires
+place-requires c κs = search needs
+
+value-or-place-requires : tie.Need-value-or-place-requires
+value-or-place-requires c κs = search needs
 
 same-length : tie.Need-same-length
 same-length c = search needs
 
 returns : tie.Need-returns
 returns c =
-    let w = c .before .before .before .before .add .ensures in
-    (number-of addedNumber _ _ _ (c .added-number .ensures) (w .0), (number-of addedPlace _ _ _ (c .before .added-place .ensures) (w .0), w .1))
+    let w = c .before .before .before .before .before .before .add .ensures in
+    let n = c .before .before .before .number .ensures in
+    let p = value-of addedNumber addedStart addedPlace _ _ _ _ _ _ n (c .before .before .start .ensures) (c .before .place .ensures) (c .value-or-place .ensures) (w .0) in
+    (number-of addedNumber _ _ _ n (w .0), (p, w .1))
 
 pub tishwabe-add-spec : {M : Type 1} → statement M
 tishwabe-add-spec =
     tie.close
-    (tie.spec add-requires added-place-requires added-number-requires same-length returns)
+    (tie.spec
+    add-requires
+    number-requires
+    cast-number
+    start-requires
+    place-requires
+    value-or-place-requires
+    same-length
+    returns)

@@ -1,6 +1,6 @@
--- The answer of the companion of asking, as its three numbers.
-use Rattle.capi.specs.Numbers.{locatedNumber, locatedPlace, locatedLength}
-use Rattle.capi.proofs.Laws.{number-of}
+-- The answer of the companion of asking, as its numbers.
+use Rattle.plot.specs.Numbers.{locatedNumber, locatedStart, locatedPlace, locatedLength}
+use Rattle.capi.proofs.Laws.{number-of, value-of}
 use borrow.Author.Needs.{needs}
 use Rattle.capi.proofs.tishwabe_ask.Statement.{statement}
 use Rattle.capi.proofs.tishwabe_ask.Tie as tie
@@ -8,26 +8,40 @@ use Rattle.capi.proofs.tishwabe_ask.Tie as tie
 locate-requires : tie.Need-locate-requires
 locate-requires c κs = search needs
 
-located-place-requires : tie.Need-located-place-requires
-located-place-requires c κs = search needs
+number-requires : tie.Need-number-requires
+number-requires c κs = search needs
 
-located-length-requires : tie.Need-located-length-requires
-located-length-requires c κs = search needs
+cast-number : tie.Need-cast-number
+cast-number c = search needs
 
-located-number-requires : tie.Need-located-number-requires
-located-number-requires c κs = search needs
+start-requires : tie.Need-start-requires
+start-requires c κs = search needs
+
+place-requires : tie.Need-place-requires
+place-requires c κs = search needs
+
+value-or-place-requires : tie.Need-value-or-place-requires
+value-or-place-requires c κs = search needs
+
+length-requires : tie.Need-length-requires
+length-requires c κs = search needs
 
 returns : tie.Need-returns
 returns c =
-    let a = c .before .before .before .locate .ensures in
-    (number-of locatedNumber _ _ _ (c .located-number .ensures) a, (number-of locatedPlace _ _ _ (c .before .before .located-place .ensures) a, number-of locatedLength _ _ _ (c .before .located-length .ensures) a))
+    let a = c .before .before .before .before .before .locate .ensures in
+    let n = c .before .before .before .before .number .ensures in
+    let p = value-of locatedNumber locatedStart locatedPlace _ _ _ _ _ _ n (c .before .before .before .start .ensures) (c .before .before .place .ensures) (c .before .value-or-place .ensures) a in
+    (number-of locatedNumber _ _ _ n a, (p, number-of locatedLength _ _ _ (c .length .ensures) a))
 
 pub tishwabe-ask-spec : {M : Type 1} → statement M
 tishwabe-ask-spec =
     tie.close
     (tie.spec
     locate-requires
-    located-place-requires
-    located-length-requires
-    located-number-requires
+    number-requires
+    cast-number
+    start-requires
+    place-requires
+    value-or-place-requires
+    length-requires
     returns)

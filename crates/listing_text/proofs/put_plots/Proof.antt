@@ -11,7 +11,7 @@ use Rattle.plot.specs.Grammar.{stepAt, Plots, readFrom, reading}
 use Rattle.plot.proofs.Cases.{Bounds, bounds, read-end, read-refused}
 use Rattle.plot.proofs.Sound.{not-stopped}
 use Rattle.plot.proofs.Entries.{reading-reads, no-plots, go, go-reads}
-use Rattle.listing_text.specs.Text.{plotsText, readText}
+use Rattle.listing_text.specs.Text.{plotsText, plotLines}
 use Rattle.listing_text.specs.Buffer.{buffer, putAll}
 use Rattle.listing_text.proofs.Fill.{put-append}
 use Rattle.listing_text.proofs.Texts.{plots-next, plots-none, read-plots}
@@ -21,7 +21,7 @@ use Rattle.listing_text.proofs.put_plots.Tie as tie
 abbrev Inv-loop : tie.InvT-loop
 Inv-loop out₀ at payload end₀ c₀ out end c =
     (f : ℕ) × (ps : List Plot) × (last : ℕ) × (length payload ≤ c .at + f) × (readFrom f (c .at) (c .last) (drop (c .at) payload) ≡ Plots ps last)
-    × (length out ≡ length out₀) × (putAll (readText (reading payload)) (buffer out₀ at) ≡ putAll (plotsText ps) (buffer out end))
+    × (length out ≡ length out₀) × (putAll (plotLines (reading payload)) (buffer out₀ at) ≡ putAll (plotsText ps) (buffer out end))
 
 abbrev μ-loop : tie.MeasureT-loop
 μ-loop out₀ at payload end₀ c₀ out end c = length payload - c .at

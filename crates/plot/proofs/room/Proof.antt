@@ -1,4 +1,4 @@
--- The checks of an added plot in their order: each return is a case of `addedAt`.
+-- The checks of an added plot in their order: each return is a case of `roomFor`.
 use native.Mathlib.Omega.{arith}
 use mathlib.Core.Path.{sym, _∙_}
 use borrow.Author.Tests.{not-true, not-false}

@@ -1,0 +1,156 @@
+// Each answer as the number, the place and the values of document 01 (specs/Numbers.antt). An accepted answer has the number 0, and a value that
+// an answer does not have is 0.
+use crate::Added;
+use crate::Checked;
+use crate::Located;
+use crate::Refusal;
+ghost use mathlib.Core.Path.{_≡_};
+ghost use Rattle.plot.specs.Numbers.{numberOf, placeOf, payloadNumber, payloadPlace, payloadEnd, payloadLast, locatedNumber, locatedPlace, locatedStart, locatedLength, addedNumber, addedPlace, addedStart};
+
+impl Refusal {
+    /// The number of the refusal, 2 or 5 to 10.
+    pub fn number(self) -> u8
+        ensures { λ n. ⌜ n ≡ numberOf self ⌝ }
+    {
+        match self {
+            Refusal::WrongLength => 2,
+            Refusal::BadMark(_) => 5,
+            Refusal::CutShort(_) => 6,
+            Refusal::BadTally(_) => 7,
+            Refusal::PlotOrder(_) => 8,
+            Refusal::NoSuchPlot => 9,
+            Refusal::Full(_) => 10,
+        }
+    }
+
+    /// Its place: the first byte of the record at fault, or of the record that is not added; else 0.
+    pub fn place(self) -> usize
+        ensures { λ n. ⌜ n ≡ placeOf self ⌝ }
+    {
+        match self {
+            Refusal::WrongLength => 0,
+            Refusal::BadMark(p) => p,
+            Refusal::CutShort(p) => p,
+            Refusal::BadTally(p) => p,
+            Refusal::PlotOrder(p) => p,
+            Refusal::NoSuchPlot => 0,
+            Refusal::Full(p) => p,
+        }
+    }
+}
+
+impl Checked {
+    /// 0, or the number of the refusal.
+    pub fn number(self) -> u8
+        ensures { λ n. ⌜ n ≡ payloadNumber self ⌝ }
+    {
+        match self {
+            Checked::Accepted(_) => 0,
+            Checked::Refused(r) => r.number(),
+        }
+    }
+
+    /// The place of the refusal.
+    pub fn place(self) -> usize
+        ensures { λ n. ⌜ n ≡ payloadPlace self ⌝ }
+    {
+        match self {
+            Checked::Accepted(_) => 0,
+            Checked::Refused(r) => r.place(),
+        }
+    }
+
+    /// The byte after the last record.
+    pub fn end(self) -> usize
+        ensures { λ n. ⌜ n ≡ payloadEnd self ⌝ }
+    {
+        match self {
+            Checked::Accepted(c) => c.at,
+            Checked::Refused(_) => 0,
+        }
+    }
+
+    /// The number of the last plot, 0 if there is none.
+    pub fn last(self) -> u16
+        ensures { λ n. ⌜ n ≡ payloadLast self ⌝ }
+    {
+        match self {
+            Checked::Accepted(c) => c.last,
+            Checked::Refused(_) => 0,
+        }
+    }
+}
+
+impl Located {
+    /// 0, or the number of the refusal.
+    pub fn number(self) -> u8
+        ensures { λ n. ⌜ n ≡ locatedNumber self ⌝ }
+    {
+        match self {
+            Located::At { start: _, len: _ } => 0,
+            Located::Refused(r) => r.number(),
+        }
+    }
+
+    /// The place of the refusal.
+    pub fn place(self) -> usize
+        ensures { λ n. ⌜ n ≡ locatedPlace self ⌝ }
+    {
+        match self {
+            Located::At { start: _, len: _ } => 0,
+            Located::Refused(r) => r.place(),
+        }
+    }
+
+    /// The record's first byte.
+    pub fn start(self) -> usize
+        ensures { λ n. ⌜ n ≡ locatedStart self ⌝ }
+    {
+        match self {
+            Located::At { start, len: _ } => start,
+            Located::Refused(_) => 0,
+        }
+    }
+
+    /// The record's length in bytes.
+    pub fn length(self) -> usize
+        ensures { λ n. ⌜ n ≡ locatedLength self ⌝ }
+    {
+        match self {
+            Located::At { start: _, len } => len,
+            Located::Refused(_) => 0,
+        }
+    }
+}
+
+impl Added {
+    /// 0, or the number of the refusal.
+    pub fn number(self) -> u8
+        ensures { λ n. ⌜ n ≡ addedNumber self ⌝ }
+    {
+        match self {
+            Added::At(_) => 0,
+            Added::Refused(r) => r.number(),
+        }
+    }
+
+    /// The place of the refusal.
+    pub fn place(self) -> usize
+        ensures { λ n. ⌜ n ≡ addedPlace self ⌝ }
+    {
+        match self {
+            Added::At(_) => 0,
+            Added::Refused(r) => r.place(),
+        }
+    }
+
+    /// The first byte of the record that was added.
+    pub fn start(self) -> usize
+        ensures { λ n. ⌜ n ≡ addedStart self ⌝ }
+    {
+        match self {
+            Added::At(start) => start,
+            Added::Refused(_) => 0,
+        }
+    }
+}
