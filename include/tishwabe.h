@@ -46,7 +46,8 @@ enum tishwabe_refusal {
 /* No text of tishwabe_list_input has more bytes. */
 #define TISHWABE_LONGEST_TEXT 22968
 
-/* Whether the five numbers are a profile: 0 or 1. *k is n - r (0 where r is above n), *h is r / 2 rounded down. */
+/* 0 if the five numbers are a profile, and 1 (misprint) if one of them is outside its range. *k is n - r (0 where r is above n), *h is r / 2
+ * rounded down, in both cases. */
 size_t tishwabe_profile(size_t n, size_t r, size_t b, size_t limit, size_t depth, size_t *k, size_t *h);
 
 /* ---- blocks: refusals 1 and 2, and 3 and 4 of the corrector; their place is 0 */
@@ -103,7 +104,7 @@ size_t tishwabe_add(uint8_t *payload, size_t payload_length, uint16_t plot,
 /* The text for the payload of a sheet with this many blocks changed, or for the payload's refusal. */
 size_t tishwabe_list(const uint8_t *payload, size_t payload_length, size_t changed, uint8_t *text, size_t text_length);
 
-/* The text for a refusal: `refused,number,place`. */
+/* The text for a refusal: `refused,number,place` and the byte 0A that ends the line, which is written and counted too. */
 size_t tishwabe_list_refusal(uint8_t number, size_t place, uint8_t *text, size_t text_length);
 
 /* The whole answer of the plot lister: the text for its standard input, the bytes n, r, b, L and D and then the sheet's D * n cells. The

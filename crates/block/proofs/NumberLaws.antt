@@ -2,7 +2,7 @@
 use mathlib.Core.Path.{_≡_, refl}
 use mathlib.Core.Logic.{_≢_}
 use mathlib.Core.List.{List, []}
-use Prim.Native.Nat.{ℕ}
+use Prim.Native.Nat.{ℕ, _≤_}
 use native.Mathlib.Omega.{arith}
 use Rattle.block.specs.Block.{filled}
 use Rattle.block.specs.Numbers.{verdictNumber, verdictPlace, verdictStart, verdictLength, writtenPlace, checkedNumber, checkedPlace, checkedClean}
@@ -35,6 +35,13 @@ number-4 WrongLength e = absurd (omega arith)
 number-4 Uncorrectable e = absurd (omega arith)
 number-4 Ambiguous e = refl
 number-4 (Corrected s f) e = absurd (omega arith)
+
+pub number-most : (w : Verdict) → verdictNumber w ≤ 4
+number-most BadProfile = omega arith
+number-most WrongLength = omega arith
+number-most Uncorrectable = omega arith
+number-most Ambiguous = omega arith
+number-most (Corrected s f) = omega arith
 
 -- the place is 0, and beside a refusal start and length are
 pub place-0 : (w : Verdict) → verdictPlace w ≡ 0

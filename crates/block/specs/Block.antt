@@ -44,7 +44,7 @@ writeLeaves p m out = refusing p (writeFits p m out) out out (encode (p .b) (p .
 
 -- ---- checking
 
--- all r cells of the remainder are zero
+-- "called clean": all r cells of the remainder are zero, which is exactly where all syndromes are (Promises.antt, CleanIff)
 unfoldable pub isClean : ℕ → ℕ → List ℕ → Bool
 isClean b r y = eqb (extent (remainder r (generator b r) y)) 0
 
@@ -64,7 +64,7 @@ judged p R =
     pick (eqb (extent R) 0) (verdicts.Corrected 0 0)
     (decided (p .limit) (scanned (extents (generator (p .b) (p .r)) R) (p .n) (p .limit) (p .n)))
 
--- the verdict on the n cells y
+-- the verdict on the n cells y: torn, tied or mended, with "the result s and f"
 unfoldable pub verdict : Profile → List ℕ → Verdict
 verdict p y = judged p (remainder (p .r) (generator (p .b) (p .r)) y)
 
@@ -76,7 +76,7 @@ filled p y out verdicts.WrongLength = out
 filled p y out verdicts.Uncorrectable = out
 filled p y out verdicts.Ambiguous = out
 
--- the codeword of a corrected block
+-- the codeword of a corrected block, "its mended cells"
 unfoldable pub corrected : Profile → List ℕ → List ℕ
 corrected p y = filled p y [] (verdict p y)
 

@@ -1,20 +1,20 @@
 // The library for C and Rust: each exported function takes numbers and byte slices (pointer and length), answers document 01's number, 0 where
 // accepted, or the length of a text, and hands every other number out through a reference. Each calls one entry of the crates below, and its
-// contract is that entry's answer, as the numbers of specs/Numbers.antt.
+// contract is that entry's answer, as the numbers that its own crate defines; specs/Numbers.antt has what C alone needs.
 ghost use mathlib.Core.Path.{_≡_};
 ghost use Rattle.block.specs.Profile.{messageLength, half};
-ghost use Rattle.block.specs.Block.{verdictNumber, verdictStart, verdictLength, writtenNumber, checkedNumber, writeAnswer, writeLeaves, checkAnswer, correctAnswer, correctLeaves};
-ghost use Rattle.sheet.specs.Sheet as sheets;
+ghost use Rattle.block.specs.Block.{writeAnswer, writeLeaves, checkAnswer, correctAnswer, correctLeaves};
+ghost use Rattle.block.specs.Numbers.{verdictNumber, verdictStart, verdictLength, writtenNumber, checkedNumber, checkedClean};
+ghost use Rattle.sheet.specs.Sheet.{writeSheetAnswer, writeSheetLeaves, readAnswer, readScratch, readPayload};
+ghost use Rattle.sheet.specs.Numbers.{readingNumber, readingPlace, readingChanged};
 ghost use Rattle.plot.specs.Grammar.{reading};
 ghost use Rattle.plot.specs.Answers.{checked, located, added, payloadWith};
 ghost use Rattle.plot.specs.Numbers.{payloadNumber, payloadPlace, payloadEnd, locatedNumber, locatedPlace, locatedStart, locatedLength, addedNumber, addedPlace, addedStart};
 ghost use Rattle.listing_text.specs.Text.{listingText, refusalText};
 ghost use Rattle.listing_text.specs.Buffer.{textIn, textLength};
 ghost use Rattle.listing.specs.Listing.{listed};
-ghost use Rattle.capi.specs.Numbers.{profileOf, profileNumber, cleanFlag, readingNumber, readingPlace, readingChanged, valueOrPlace};
-use block::Checked;
+ghost use Rattle.capi.specs.Numbers.{profileOf, profileNumber, valueOrPlace};
 use block::Profile;
-use sheet::Reading;
 
 fn profile_of(n: usize, r: usize, b: usize, limit: usize, depth: usize) -> Profile
     ensures { λ z. ⌜ z ≡ profileOf n r b limit depth ⌝ }
@@ -29,44 +29,6 @@ fn profile_of(n: usize, r: usize, b: usize, limit: usize, depth: usize) -> Profi
 }
 
 // ---- answers as numbers
-
-fn clean_flag(c: Checked) -> usize
-    ensures { λ z. ⌜ z ≡ cleanFlag c ⌝ }
-{
-    match c {
-        Checked::Clean => 1,
-        Checked::NotClean => 0,
-        Checked::BadProfile => 0,
-        Checked::WrongLength => 0,
-    }
-}
-
-fn reading_number(a: Reading) -> usize
-    ensures { λ z. ⌜ z ≡ readingNumber a ⌝ }
-{
-    match a {
-        Reading::Accepted { changed: _ } => 0,
-        Reading::Refused(r) => r.number(),
-    }
-}
-
-fn reading_place(a: Reading) -> usize
-    ensures { λ z. ⌜ z ≡ readingPlace a ⌝ }
-{
-    match a {
-        Reading::Accepted { changed: _ } => 0,
-        Reading::Refused(r) => r.place(),
-    }
-}
-
-fn reading_changed(a: Reading) -> usize
-    ensures { λ z. ⌜ z ≡ readingChanged a ⌝ }
-{
-    match a {
-        Reading::Accepted { changed } => changed,
-        Reading::Refused(_) => 0,
-    }
-}
 
 // Where accepted a value, and else the place of the refusal.
 fn value_or_place(number: usize, value: usize, place: usize) -> usize
@@ -124,7 +86,7 @@ pub extern "C" fn tishwabe_write_block(
     ensures { λ z. ⌜ z ≡ writtenNumber (writeAnswer (profileOf n r b limit depth) (now (message .entry)) (now (cells .entry))) ⌝ }
     ensures { λ _. ⌜ now (cells .exit) ≡ writeLeaves (profileOf n r b limit depth) (now (message .entry)) (now (cells .entry)) ⌝ }
 {
-    block::written_number(block::write(profile_of(n, r, b, limit, depth), message, cells))
+    block::write(profile_of(n, r, b, limit, depth), message, cells).number()
 }
 
 /// Whether a block is a codeword: `clean` is 1 or 0.
@@ -139,11 +101,11 @@ pub extern "C" fn tishwabe_check_block(
     clean: &mut usize,
 ) -> usize
     ensures { λ z. ⌜ z ≡ checkedNumber (checkAnswer (profileOf n r b limit depth) (now (read .entry))) ⌝ }
-    ensures { λ _. ⌜ now (clean .exit) ≡ cleanFlag (checkAnswer (profileOf n r b limit depth) (now (read .entry))) ⌝ }
+    ensures { λ _. ⌜ now (clean .exit) ≡ checkedClean (checkAnswer (profileOf n r b limit depth) (now (read .entry))) ⌝ }
 {
     let answer = block::check(profile_of(n, r, b, limit, depth), read);
-    *clean = clean_flag(answer);
-    block::checked_number(answer)
+    *clean = answer.clean();
+    answer.number()
 }
 
 /// Corrects a block: the start and the length of the run.
@@ -165,9 +127,9 @@ pub extern "C" fn tishwabe_correct_block(
     ensures { λ _. ⌜ now (out .exit) ≡ correctLeaves (profileOf n r b limit depth) (now (read .entry)) (now (out .entry)) ⌝ }
 {
     let answer = block::correct(profile_of(n, r, b, limit, depth), read, out);
-    *start = block::verdict_start(answer);
-    *length = block::verdict_length(answer);
-    block::verdict_number(answer)
+    *start = answer.start();
+    *length = answer.length();
+    answer.number()
 }
 
 // ---- sheets
@@ -183,10 +145,10 @@ pub extern "C" fn tishwabe_write_sheet(
     payload: &[u8],
     sheet: &mut [u8],
 ) -> usize
-    ensures { λ z. ⌜ z ≡ writtenNumber (sheets.writeAnswer (profileOf n r b limit depth) (now (payload .entry)) (now (sheet .entry))) ⌝ }
-    ensures { λ _. ⌜ now (sheet .exit) ≡ sheets.writeLeaves (profileOf n r b limit depth) (now (payload .entry)) (now (sheet .entry)) ⌝ }
+    ensures { λ z. ⌜ z ≡ writtenNumber (writeSheetAnswer (profileOf n r b limit depth) (now (payload .entry)) (now (sheet .entry))) ⌝ }
+    ensures { λ _. ⌜ now (sheet .exit) ≡ writeSheetLeaves (profileOf n r b limit depth) (now (payload .entry)) (now (sheet .entry)) ⌝ }
 {
-    block::written_number(sheet::write(profile_of(n, r, b, limit, depth), payload, sheet))
+    sheet::write(profile_of(n, r, b, limit, depth), payload, sheet).number()
 }
 
 /// Reads a sheet: the number of blocks changed, or the place of the refusal.
@@ -203,16 +165,16 @@ pub extern "C" fn tishwabe_read_sheet(
     changed: &mut usize,
     place: &mut usize,
 ) -> usize
-    ensures { λ z. ⌜ z ≡ readingNumber (sheets.readAnswer (profileOf n r b limit depth) (now (sheet .entry)) (now (scratch .entry)) (now (payload .entry))) ⌝ }
-    ensures { λ _. ⌜ now (changed .exit) ≡ readingChanged (sheets.readAnswer (profileOf n r b limit depth) (now (sheet .entry)) (now (scratch .entry)) (now (payload .entry))) ⌝ }
-    ensures { λ _. ⌜ now (place .exit) ≡ readingPlace (sheets.readAnswer (profileOf n r b limit depth) (now (sheet .entry)) (now (scratch .entry)) (now (payload .entry))) ⌝ }
-    ensures { λ _. ⌜ now (scratch .exit) ≡ sheets.readScratch (profileOf n r b limit depth) (now (sheet .entry)) (now (scratch .entry)) (now (payload .entry)) ⌝ }
-    ensures { λ _. ⌜ now (payload .exit) ≡ sheets.readPayload (profileOf n r b limit depth) (now (sheet .entry)) (now (scratch .entry)) (now (payload .entry)) ⌝ }
+    ensures { λ z. ⌜ z ≡ readingNumber (readAnswer (profileOf n r b limit depth) (now (sheet .entry)) (now (scratch .entry)) (now (payload .entry))) ⌝ }
+    ensures { λ _. ⌜ now (changed .exit) ≡ readingChanged (readAnswer (profileOf n r b limit depth) (now (sheet .entry)) (now (scratch .entry)) (now (payload .entry))) ⌝ }
+    ensures { λ _. ⌜ now (place .exit) ≡ readingPlace (readAnswer (profileOf n r b limit depth) (now (sheet .entry)) (now (scratch .entry)) (now (payload .entry))) ⌝ }
+    ensures { λ _. ⌜ now (scratch .exit) ≡ readScratch (profileOf n r b limit depth) (now (sheet .entry)) (now (scratch .entry)) (now (payload .entry)) ⌝ }
+    ensures { λ _. ⌜ now (payload .exit) ≡ readPayload (profileOf n r b limit depth) (now (sheet .entry)) (now (scratch .entry)) (now (payload .entry)) ⌝ }
 {
     let answer = sheet::read(profile_of(n, r, b, limit, depth), sheet, scratch, payload);
-    *changed = reading_changed(answer);
-    *place = reading_place(answer);
-    reading_number(answer)
+    *changed = answer.changed();
+    *place = answer.place();
+    answer.number()
 }
 
 // ---- plots

@@ -1,45 +1,68 @@
--- All demands together, each from the theorem of its own crate.
+-- All demands together, and what stands beside them, each from the theorem of its own crate.
+use mathlib.Core.Path.{sym}
 use Rattle.field.proofs.Laws.{field-laws, alpha-laws}
-use Rattle.code.proofs.Theorems.{codeword-iff-syndromes, minimum-distance}
-use Rattle.block.proofs.Encoding.{writes-codeword}
-use Rattle.block.proofs.Promises.{clean-iff, uncorrectable-iff, ambiguous-iff, corrected-iff, exactly-one, depth-free, half-promise}
-use Rattle.sheet.proofs.Theorems.{written-blocks, read-results}
+use Rattle.code.proofs.Theorems.{codeword-iff-syndromes, minimum-distance, long-run-reaches}
+use Rattle.block.proofs.Verdicts.{exactly-one}
+use Rattle.block.proofs.Promises.{in-range-iff, writes-codeword, clean-iff, uncorrectable-iff, ambiguous-iff, corrected-iff, depth-free, half-promise, block-refusals}
+use Rattle.sheet.proofs.Apart.{places, taken-apart}
+use Rattle.sheet.proofs.Theorems.{writes-sheet, read-results}
+use Rattle.sheet.proofs.Refusals.{sheet-refusals}
 use Rattle.sheet.proofs.Promise.{sheet-promise}
 use Rattle.sheet.proofs.Examples.{starred-examples}
 use Rattle.plot.proofs.Canonical.{written-as-read, read-as-written, accepted-form, asked-is-record, asked-refused, added-is-found, refused-unchanged, full-exactly}
 use Rattle.plot.proofs.Sheets.{written-reads-as-plots, same-after-damage}
+use Rattle.listing.proofs.Cases.{listed-short}
 use Rattle.listing.proofs.Theorems.{whole-text}
-use Rattle.demands.specs.Demands.{Demands}
+use Rattle.demands.specs.Demands.{Demands, Beside, AllPromises}
 
 pub demands : Demands
 demands = record {
   first = record {
-    field = field-laws;
-    powers = alpha-laws;
-    codewords = codeword-iff-syndromes;
+    blocks = block-refusals;
+    sheets = sheet-refusals;
+    asking = asked-refused;
+    adding = refused-unchanged;
+    listing = λ input l. sym (listed-short input l);
+  };
+  second = record {
+    writing = writes-codeword;
     clean = clean-iff;
-    form = accepted-form;
-    written = written-as-read;
-    read = read-as-written;
-    asked = asked-is-record;
-    asked-refused = asked-refused;
-    added = added-is-found;
-    unchanged = refused-unchanged;
+    places = places;
+    records = accepted-form;
+    asking = asked-is-record;
+    adding = added-is-found;
     full = full-exactly;
+    plots = written-reads-as-plots;
+    afresh = written-as-read;
   };
-  second = record { block = writes-codeword; sheet = written-blocks; promise = sheet-promise; plots = written-reads-as-plots };
   third = record {
-    uncorrectable = uncorrectable-iff;
-    ambiguous = ambiguous-iff;
-    corrected = corrected-iff;
-    exactly-one = exactly-one;
-    depth-free = depth-free;
-    distance = minimum-distance;
-    half = half-promise;
-    sheet = read-results;
-    promise = sheet-promise;
-    plots = same-after-damage;
-    examples = starred-examples;
+    none = uncorrectable-iff;
+    two = ambiguous-iff;
+    else = exactly-one;
+    one = corrected-iff;
+    reading = read-results;
+    writing = writes-sheet;
+    scratched = λ p m cells sheet scratch out v l h c d b. let q = sheet-promise p m cells v h c .damaged sheet scratch out l d b in (q .number, q .payload);
+    asking = same-after-damage;
   };
-  lister = whole-text;
 }
+
+pub beside : Beside
+beside = record {
+  field = field-laws;
+  powers = alpha-laws;
+  codewords = codeword-iff-syndromes;
+  distance = minimum-distance;
+  long-runs = long-run-reaches;
+  ranges = in-range-iff;
+  depth-free = depth-free;
+  half-run = half-promise;
+  apart = taken-apart;
+  untouched = λ p m cells scratch out v h c b. sheet-promise p m cells v h c .back scratch out b;
+  read-as-written = read-as-written;
+  examples = starred-examples;
+  text = whole-text;
+}
+
+pub all-promises : AllPromises
+all-promises = record { demands = demands; beside = beside }

@@ -1,66 +1,111 @@
--- What the customer demanded, sentence by sentence, each with the statement that says it. A statement is defined in the crate named in its
--- `use` line, in document 01's words; proofs/Demands.antt proves all of them together.
+-- What the customer demands, sentence by sentence in the customer's own words ("What the customer demands"), each with the statement that says it; then
+-- what document 01 asks beside the three demands. A statement is defined in the crate that its `use` line names; proofs/Demands.antt proves them all.
+use mathlib.Core.Path.{_≡_}
+use mathlib.Core.List.{List}
+use Prim.Native.Nat.{ℕ, _*_, _≤_, _<_}
+use lib.ListN.{length}
 use Rattle.field.specs.Laws.{FieldLaws, AlphaLaws}
-use Rattle.code.specs.Theorems.{CodewordIffSyndromes, MinimumDistance}
-use Rattle.block.specs.Promises.{WritesCodeword, CleanIff, UncorrectableIff, AmbiguousIff, CorrectedIff, ExactlyOne, DepthFree, HalfPromise}
-use Rattle.sheet.specs.Theorems.{WrittenBlocks, ReadResults}
-use Rattle.sheet.specs.Promise.{SheetPromise}
+use Rattle.code.specs.Theorems.{CodewordIffSyndromes, MinimumDistance, LongRunReaches}
+use Rattle.block.specs.Profile.{InRange, InRangeIff, half}
+use Rattle.block.specs.Promises.{WritesCodeword, CleanIff, UncorrectableIff, AmbiguousIff, CorrectedIff, ExactlyOne, HalfPromise, DepthFree, BlockRefusals}
+use Rattle.block.specs.declared.Profile.{Profile}
+use Rattle.sheet.specs.Sheet.{writeSheetLeaves, readAnswer, readPayload}
+use Rattle.sheet.specs.Numbers.{readingNumber}
+use Rattle.sheet.specs.Buffers.{Payload, Lent}
+use Rattle.sheet.specs.Theorems.{Places, TakenApart, WritesSheet, ReadResults, SheetRefusals}
+use Rattle.sheet.specs.Promise.{Damaged, ReadsBack}
 use Rattle.sheet.specs.Examples.{StarredExamples}
 use Rattle.plot.specs.Canonical.{WrittenAsRead, ReadAsWritten, AcceptedForm, AskedIsRecord, AskedRefused, AddedIsFound, RefusedUnchanged, FullExactly}
 use Rattle.plot.specs.Sheets.{WrittenReadsAsPlots, SameAfterDamage}
+use Rattle.listing_text.specs.Text.{refusalText}
+use Rattle.listing.specs.Listing.{listed}
 use Rattle.listing.specs.Theorems.{WholeText}
 
--- 1. The arithmetic is that of the field, for every n and r together, and a payload has one form
+-- 1. "So that any scan and any tally file can be fed in, every entry point ends with a result on every input, .."
+-- This holds by the language: a function that is proved returns, with no undefined step, on every input that its `requires` allows. The gate shows the rest:
+-- `rt ci` fails on a function that is not proved, and rust/compare/tests/entries.rs on a public function that has a `requires`.
 pub record Demand1 : Type 0 where
-  -- "Field laws are shown for every n and r together"
-  pub field : FieldLaws
-  pub powers : AlphaLaws
-  -- a block is clean exactly if its syndromes are zero, which is exactly when the generator divides it
-  pub codewords : CodewordIffSyndromes
-  pub clean : CleanIff
-  -- an accepted payload is the records of its plots, then zeros; it is what adding them in turn gives, and reading gives them back
-  pub form : AcceptedForm
-  pub written : WrittenAsRead
-  pub read : ReadAsWritten
-  pub asked : AskedIsRecord
-  pub asked-refused : AskedRefused
-  pub added : AddedIsFound
-  pub unchanged : RefusedUnchanged
-  pub full : FullExactly
+  -- ".. refuses faulty input itself with the numbers of document 01, and after a refusal each lent buffer holds what document 01 says."
+  pub blocks : (p : Profile) → BlockRefusals p
+  pub sheets : (p : Profile) → SheetRefusals p
+  pub asking : AskedRefused
+  pub adding : RefusedUnchanged
+  pub listing : (input : List ℕ) → length input < 5 → listed input ≡ refusalText 1 0
 
--- 2. What is written is the message, as a codeword, and reads back as it was
+-- 2.
 pub record Demand2 : Type 0 where
-  pub block : WritesCodeword
-  pub sheet : WrittenBlocks
-  -- every payload is written, and a written sheet reads back as its payload with no block changed (SheetPromise, its fields writes and back)
-  pub promise : SheetPromise
+  -- "A written block carries the message unchanged in its upper cells and is divisible by the generator polynomial of source document 000; .."
+  pub writing : WritesCodeword
+  -- ".. a block is called clean exactly if all its syndromes are zero."
+  pub clean : CleanIff
+  -- "Sheets and plot records follow document 01.": where cells and bytes of a sheet stand; an accepted payload is records, then zeros; asking, adding, full
+  pub places : (D : ℕ) → Places D
+  pub records : AcceptedForm
+  pub asking : AskedIsRecord
+  pub adding : AddedIsFound
+  pub full : FullExactly
+  -- "A written sheet reads back as its plots, .."
   pub plots : WrittenReadsAsPlots
+  -- ".. and every accepted payload is byte for byte what writing its plots afresh would give."
+  pub afresh : WrittenAsRead
 
--- 3. What is read is corrected or refused, and never guessed
+-- 3. "For every profile and whatever cells are read, misprint and wrong frame aside throughout: .."
 pub record Demand3 : Type 0 where
-  -- "a block is torn exactly when no run up to the limit reaches a codeword"
-  pub uncorrectable : UncorrectableIff
-  -- "tied exactly when two different codewords share the shortest length"
-  pub ambiguous : AmbiguousIff
-  -- "else mended to the codeword inside the shortest run"; these facts fix codeword, start and length
-  pub corrected : CorrectedIff
-  pub exactly-one : ExactlyOne
-  pub depth-free : DepthFree
-  -- two codewords differ in more than r cells, so that one within a run of h cells is the only one
-  pub distance : MinimumDistance
-  pub half : HalfPromise
-  -- the sheet is refused with its lowest refused block, or gives the messages of all codewords and counts the changed blocks
-  pub sheet : ReadResults
-  -- no scratch of up to D × h cells loses a byte where L ≥ h (SheetPromise, its field damaged)
-  pub promise : SheetPromise
-  -- and asking for any plot on what came back gives the same record or the same refusal as on what was written
-  pub plots : SameAfterDamage
-  -- "The eleven starred examples are shown to follow from the definitions"
-  pub examples : StarredExamples
+  -- ".. a block is torn exactly when no run up to the profile's limit reaches a codeword, .."
+  pub none : UncorrectableIff
+  -- ".. and tied exactly when within that limit two different codewords share the shortest length."
+  pub two : AmbiguousIff
+  -- "Else it is mended to the codeword that differs from it inside the shortest run, every other codeword lying within longer runs only; the result is that
+  -- run's start and length, 0 and 0 if clean."
+  pub else : ExactlyOne
+  pub one : CorrectedIff
+  -- "A sheet is refused exactly when a block of it is, with the lowest such block's number and reason; else its payload is the message bytes of all its
+  -- blocks as mended, in document 01's order."
+  pub reading : ReadResults
+  -- "Every payload of the profile's size is written to a sheet as document 01 lays it out."
+  pub writing : WritesSheet
+  -- "If the limit is at least half the check cells, rounded down, then whatever a scratch puts into one run of that sheet, no longer than depth times that
+  -- half, the reader under the same profile gives back that payload byte for byte."
+  pub scratched : (p : Profile) (payload cells sheet scratch out : List ℕ) → InRange p → half p ≤ p .limit → Payload p payload → length cells ≡ p .depth * p .n
+      → Damaged p (writeSheetLeaves p payload cells) sheet → Lent p sheet scratch out
+      → (readingNumber (readAnswer p sheet scratch out) ≡ 0) × (readPayload p sheet scratch out ≡ payload)
+  -- "Asking for any plot number then answers alike on both payloads, with the same record or the same refusal, as the rules for plot records have it."
+  pub asking : SameAfterDamage
 
 pub record Demands : Type 0 where
   pub first : Demand1
   pub second : Demand2
   pub third : Demand3
-  -- beside the three, of the program: the plot lister's answer is never cut
-  pub lister : WholeText
+
+-- what is in no demand
+pub record Beside : Type 0 where
+  -- "Field laws are shown for every n and r together."
+  pub field : FieldLaws
+  pub powers : AlphaLaws
+  -- a codeword is what the generator divides, which is where all syndromes are zero; two codewords differ in more than r cells
+  pub codewords : CodewordIffSyndromes
+  pub distance : MinimumDistance
+  -- "Lengths of r and more reach a codeword always, so L stops at r−1."
+  pub long-runs : LongRunReaches
+  -- the table of ranges, and the test that the entries make
+  pub ranges : InRangeIff
+  -- "A block's verdict and its mended cells depend on its own cells and on n, r, b, L only."
+  pub depth-free : DepthFree
+  -- of one block, what Demand3 says of a sheet's scratch
+  pub half-run : HalfPromise
+  -- blocks and messages, put together and taken apart again
+  pub apart : (D : ℕ) → TakenApart D
+  -- a written sheet, read as it was written, gives its payload back with no block changed
+  pub untouched : (p : Profile) (payload cells scratch out : List ℕ) → InRange p → Payload p payload → length cells ≡ p .depth * p .n
+      → Lent p (writeSheetLeaves p payload cells) scratch out → ReadsBack p payload (writeSheetLeaves p payload cells) 0 scratch out
+  -- reading a payload that was written plot by plot gives those plots
+  pub read-as-written : ReadAsWritten
+  -- "The eleven starred examples are shown to follow from the definitions, gathered into a common table with a common theorem."
+  pub examples : StarredExamples
+  -- the plot lister's text is never cut
+  pub text : WholeText
+
+-- everything that is promised of the base, as one theorem
+pub record AllPromises : Type 0 where
+  pub demands : Demands
+  pub beside : Beside

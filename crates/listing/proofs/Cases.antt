@@ -9,14 +9,15 @@ use lib.ListN.{length, getD, take, drop, replicate, length-drop, length-replicat
 use lib.Seq.{take-all, length-take-le}
 use borrow.Author.Tests.{lt-ltb, le-ltb}
 use Rattle.block.specs.Profile.{InRange, inRange, messageLength}
-use Rattle.block.specs.Block.{refusing}
 use Rattle.block.specs.declared.Profile.{Profile}
-use Rattle.block.specs.declared.Verdict.the-variants as verdicts
-use Rattle.sheet.specs.Sheet.{readAnswer, readPayload, refusalNumber, refusalPlace}
+use Rattle.block.proofs.NumberLaws.{number-most}
+use Rattle.sheet.specs.Sheet.{readAnswer, readPayload}
+use Rattle.sheet.specs.Numbers.{refusalNumber, refusalPlace}
 use Rattle.sheet.specs.declared.Reading.{Reading}
 use Rattle.sheet.specs.declared.Reading.the-variants.{Refused, Accepted}
 use Rattle.sheet.specs.declared.Refusal.{Refusal}
 use Rattle.sheet.specs.declared.Refusal.the-variants.{BadProfile, WrongLength, Block}
+use Rattle.sheet.proofs.Entry.{read-bad}
 use Rattle.plot.specs.Grammar.{reading}
 use Rattle.listing_text.specs.Text.{refusalText, listingText}
 use Rattle.listing_text.specs.Buffer.{textIn, textLength}
@@ -29,11 +30,7 @@ profile-is input n r b limit depth en er eb el ed = rw (en, er, eb, el, ed)
 pub number-small : (r : Refusal) → refusalNumber r < 256
 number-small BadProfile = omega arith
 number-small WrongLength = omega arith
-number-small (Block n verdicts.BadProfile) = omega arith
-number-small (Block n verdicts.WrongLength) = omega arith
-number-small (Block n verdicts.Uncorrectable) = omega arith
-number-small (Block n verdicts.Ambiguous) = omega arith
-number-small (Block n (verdicts.Corrected s f)) = omega arith
+number-small (Block n w) = omega (arith, number-most w)
 
 module _ (p : Profile) (sheet scratch payload : List ℕ) (es : scratch ≡ scratchBuffer p) (ep : payload ≡ payloadBuffer p) where
   pub text-refused : (r : Refusal) → Refused r ≡ readAnswer p sheet scratch payload → refusalText (refusalNumber r) (refusalPlace r) ≡ sheetText p sheet
@@ -48,16 +45,11 @@ module _ (p : Profile) (sheet scratch payload : List ℕ) (es : scratch ≡ scra
   text-accepted changed back e b =
       ap₂ sheetAnswerText (e ∙ ap₂ (λ (s q : List ℕ). readAnswer p sheet s q) es ep) (b ∙ ap₂ (λ (s q : List ℕ). readPayload p sheet s q) es ep)
 
--- a profile that is out of range is refusal 1, whatever the sheet
-bad-answer : (p : Profile) (sheet scratch payload : List ℕ) → inRange p ≡ false → Refused BadProfile ≡ readAnswer p sheet scratch payload
-unfolding readAnswer refusing
-bad-answer p sheet scratch payload e = rw e
-
 pub listed-bad : (input : List ℕ) → 5 ≤ length input → inRange (profileOf input) ≡ false → refusalText 1 0 ≡ listed input
 unfolding listed
 listed-bad input l e =
     rw (le-ltb (length input) 5 l)
-    (text-refused (profileOf input) (drop 5 input) (scratchBuffer (profileOf input)) (payloadBuffer (profileOf input)) refl refl BadProfile (bad-answer (profileOf input) (drop 5 input) _ _ e))
+    (text-refused (profileOf input) (drop 5 input) (scratchBuffer (profileOf input)) (payloadBuffer (profileOf input)) refl refl BadProfile (read-bad (profileOf input) (drop 5 input) _ _ e .0))
 
 pub listed-short : (input : List ℕ) → length input < 5 → refusalText 1 0 ≡ listed input
 unfolding listed

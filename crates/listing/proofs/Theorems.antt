@@ -1,27 +1,28 @@
 -- The theorems of specs/Theorems.antt. A sheet's refusal has a place of at most D; an accepted sheet gives a payload of bytes and at most D
 -- changed blocks; and the listing_text crate bounds the texts of these.
-use mathlib.Core.Path.{_≡_, refl, sym, ap₂, _∙_}
-use mathlib.Core.Logic.{⊎-elim}
+use mathlib.Core.Path.{_≡_, refl, sym, ap, ap₂, _∙_}
+use mathlib.Core.Logic.{_⊎_, inl, inr, ⊎-elim}
 use mathlib.Core.List.{List}
-use Prim.Native.Nat.{ℕ, _*_, _≤_, _<_, zero-le}
+use Prim.Native.Nat.{ℕ, _*_, _≤_, _<_}
 use native.Mathlib.Omega.{arith}
 use lib.Dec.{ltb, eqb}
 use lib.ListN.{length, getD, take, drop, length-replicate}
 use borrow.Author.Tests.{eqb-true, eqb-false}
-use Rattle.lists.proofs.Test.{true-or-false, true-false, pick-of}
+use Rattle.lists.proofs.Test.{zero-or, true-or-false, true-false, pick-of}
 use Rattle.lists.specs.Bytes.{Bytes}
 use Rattle.lists.proofs.Bytes.{bytes-of, drop-bytes}
 use Rattle.block.specs.Profile.{InRange, inRange, messageLength}
 use Rattle.block.specs.declared.Profile.{Profile}
 use Rattle.block.proofs.Ranges.{in-range}
-use Rattle.sheet.specs.Sheet.{readAnswer, readPayload, refusalNumber, refusalPlace}
+use Rattle.sheet.specs.Sheet.{readAnswer, readPayload}
+use Rattle.sheet.specs.Numbers.{refusalNumber, refusalPlace, readingNumber, readingPlace}
 use Rattle.sheet.specs.Buffers.{Lent}
-use Rattle.sheet.specs.Theorems.{ReadRefused}
+use Rattle.sheet.specs.Theorems.{Results, ReadRefusals}
 use Rattle.sheet.specs.declared.Reading.{Reading}
 use Rattle.sheet.specs.declared.Reading.the-variants.{Refused, Accepted}
 use Rattle.sheet.specs.declared.Refusal.{Refusal}
-use Rattle.sheet.specs.declared.Refusal.the-variants.{BadProfile, WrongLength, Block}
-use Rattle.sheet.proofs.Theorems.{read-results, early-refusals}
+use Rattle.sheet.proofs.Theorems.{read-results}
+use Rattle.sheet.proofs.Refusals.{sheet-refusals}
 use Rattle.sheet.proofs.Accepted.{payload-back, changed-most}
 use Rattle.listing_text.specs.Buffer.{textIn, textLength}
 use Rattle.listing_text.proofs.Fill.{fill-whole}
@@ -42,11 +43,17 @@ module _ (p : Profile) (sheet : List ℕ) where
 
   -- a sheet of D × n bytes under a profile in range
   module _ (v : InRange p) (h : Lent p sheet (scratchBuffer p) (payloadBuffer p)) where
+    results : Results p sheet (scratchBuffer p) (payloadBuffer p)
+    results = read-results p sheet (scratchBuffer p) (payloadBuffer p) v h
+
+    place-most : readingPlace answer ≤ 16
+    place-most =
+        ⊎-elim
+        (λ z. let w = results .accepted .0 z in let e : readingPlace answer ≡ 0 = results .accepts (w .0) (w .1) .place in omega arith)
+        (λ n. omega (arith, results .refused (readingPlace answer) (readingNumber answer) n .0 (refl, refl) .below, v .depth-most)) (zero-or (readingNumber answer))
+
     answer-fits : (a : Reading) → answer ≡ a → length (sheetText p sheet) ≤ longestText
-    answer-fits (Refused BadProfile) q = refused-fits BadProfile q zero-le
-    answer-fits (Refused WrongLength) q = refused-fits WrongLength q zero-le
-    answer-fits (Refused (Block d w)) q =
-        refused-fits (Block d w) q (omega (arith, read-results p sheet (scratchBuffer p) (payloadBuffer p) v h .refused d w .0 q .below, v .depth-most))
+    answer-fits (Refused r) q = refused-fits r q (let e : readingPlace answer ≡ refusalPlace r = ap readingPlace q in omega (arith, place-most))
     answer-fits (Accepted changed) q =
         let back = readPayload p sheet (scratchBuffer p) (payloadBuffer p) in
         let bytes = payload-back p sheet (scratchBuffer p) (payloadBuffer p) v h changed q .bytes in
@@ -55,14 +62,17 @@ module _ (p : Profile) (sheet : List ℕ) where
         (listing-length changed back (omega (arith, v .depth-most)) bytes)
 
   -- refusals 1 and 2
-  early-fits : (number : ℕ) → ReadRefused p sheet (scratchBuffer p) (payloadBuffer p) number → length (sheetText p sheet) ≤ longestText
-  early-fits number z = refused-fits (z .refusal) (z .answer) (omega (arith, z .placed))
+  refusals : ReadRefusals p sheet (scratchBuffer p) (payloadBuffer p)
+  refusals = sheet-refusals p .reads sheet (scratchBuffer p) (payloadBuffer p)
+
+  early-fits : (a : Reading) → answer ≡ a → (readingNumber answer ≡ 1) ⊎ (readingNumber answer ≡ 2) → length (sheetText p sheet) ≤ longestText
+  early-fits (Refused r) q e = refused-fits r q (let z : readingPlace answer ≡ 0 = refusals .place e in let k : readingPlace answer ≡ refusalPlace r = ap readingPlace q in omega arith)
+  early-fits (Accepted changed) q e = let z : readingNumber answer ≡ 0 = ap readingNumber q in absurd (⊎-elim (λ o. omega arith) (λ o. omega arith) e)
 
   -- any sheet of bytes under any profile
   sheet-fits : Bytes sheet → length (sheetText p sheet) ≤ longestText
   sheet-fits b =
-      ⊎-elim (λ t. by-length (in-range p .0 t))
-      (λ f. early-fits 1 (early-refusals p .read-1 sheet (scratchBuffer p) (payloadBuffer p) (λ v. true-false (in-range p .1 v) f))) (true-or-false (inRange p))
+      ⊎-elim (λ t. by-length (in-range p .0 t)) (λ f. early-fits answer refl (inl (refusals .early .one .1 (λ v. true-false (in-range p .1 v) f)))) (true-or-false (inRange p))
     where
       lent : length sheet ≡ p .depth * p .n → Lent p sheet (scratchBuffer p) (payloadBuffer p)
       lent e = record { cells = record { count = e; bytes = b }; scratch-count = length-replicate (p .depth * p .n) 0; out-count = length-replicate (p .depth * messageLength p) 0 }
@@ -70,7 +80,7 @@ module _ (p : Profile) (sheet : List ℕ) where
       by-length : InRange p → length (sheetText p sheet) ≤ longestText
       by-length v =
           ⊎-elim (λ t. answer-fits v (lent (eqb-true _ _ t)) answer refl)
-          (λ f. early-fits 2 (early-refusals p .read-2 sheet (scratchBuffer p) (payloadBuffer p) v (λ e. eqb-false _ _ f (e .0))))
+          (λ f. early-fits answer refl (inr (refusals .early .two .1 (v, λ e. eqb-false _ _ f (e .0)))))
           (true-or-false (eqb (length sheet) (p .depth * p .n)))
 
 pub text-fits : TextFits

@@ -7,7 +7,8 @@ use lib.ListN.{length, getD, drop, replicate}
 use Rattle.lists.specs.Choice.{pick}
 use Rattle.block.specs.Profile.{messageLength}
 use Rattle.block.specs.declared.Profile.{Profile}
-use Rattle.sheet.specs.Sheet.{readAnswer, readPayload, refusalNumber, refusalPlace}
+use Rattle.sheet.specs.Sheet.{readAnswer, readPayload}
+use Rattle.sheet.specs.Numbers.{refusalNumber, refusalPlace}
 use Rattle.sheet.specs.declared.Reading.{Reading}
 use Rattle.sheet.specs.declared.Reading.the-variants.{Refused, Accepted}
 use Rattle.plot.specs.Grammar.{reading}

@@ -5,7 +5,7 @@ ghost use Prim.Native.Nat.{_≤_};
 ghost use lib.ListN.{length, replicate};
 ghost use Rattle.block.specs.Profile.{InRange};
 ghost use Rattle.listing_text.specs.Buffer.{textIn, textLength};
-ghost use Rattle.sheet.specs.Sheet.{refusalNumber};
+ghost use Rattle.sheet.specs.Numbers.{refusalNumber};
 ghost use Rattle.listing.specs.Listing.{profileOf, scratchBuffer, payloadBuffer, sheetText, listed};
 use block::Profile;
 use sheet::Reading;

@@ -19,7 +19,7 @@ use Rattle.plot.specs.Layout.{Plot, noLine, linesHold, linesOf, recordOf
 use Rattle.plot.specs.Grammar.{Plots, longest, reading}
 use Rattle.plot.specs.Answers.{lastNumber, seek, located, partOf, asked, added, payloadAfter, payloadWith}
 use Rattle.plot.specs.Numbers.{numberOf, placeOf, locatedNumber, locatedStart, locatedLength, addedNumber, addedPlace, addedStart}
-use Rattle.plot.specs.Canonical.{Holds, Rising, bytesOf, payloadOf, AllAdded, NotAdded, addThen, addAll, WrittenAsRead, ReadAsWritten, AcceptedForm, Found, AskedIsRecord, AskedRefused, AddedIsFound, RefusedUnchanged, FullExactly}
+use Rattle.plot.specs.Canonical.{Holds, Rising, bytesOf, payloadOf, AllAdded, NotAdded, addThen, addAll, WrittenAsRead, ReadAsWritten, AcceptedForm, FoundAt, AskedIsRecord, AskedRefused, AddedIsFound, RefusedUnchanged, FullExactly}
 use Rattle.plot.proofs.Lists.{part-front, part-middle}
 use Rattle.plot.proofs.Complete.{payload-length, reading-complete}
 use Rattle.plot.proofs.Entries.{reading-reads, reading-sound, taken, added-plots, add-here, add-full, left-as-was, located-plots, part-refused, Within, within-seek}
@@ -221,14 +221,14 @@ module _ (size : ℕ) (ps : List Plot) (p : Plot) (qs : List Plot) (r : Rising 0
       ∙ ap (λ (t : List ℕ). take (length (recordOf p)) (drop (length (bytesOf ps)) (bytesOf ps ++ t))) (append-assoc (recordOf p) (bytesOf qs) zeros)
       ∙ part-middle (bytesOf ps) (recordOf p) (bytesOf qs ++ zeros))
 
-  pub found-payload : Found (p .number) (payloadOf size (ps ++ p ∷ qs)) (length (bytesOf ps)) (recordOf p)
+  pub found-payload : FoundAt (p .number) (payloadOf size (ps ++ p ∷ qs)) (length (bytesOf ps)) (recordOf p)
   found-payload = record { number = ap locatedNumber located-payload; start = ap locatedStart located-payload; size = ap locatedLength located-payload; part = asked-payload }
 
 pub asked-is-record : AskedIsRecord
 asked-is-record s ps qs p end b q =
     let i = reading-sound s (ps ++ p ∷ qs) end q in
     let l = reading-reads s (ps ++ p ∷ qs) end q .0 in
-    subst (λ (t : List ℕ). Found (p .number) t (length (bytesOf ps)) (recordOf p)) (sym (i .form b)) (found-payload (length s) ps p qs (i .rising) (i .fits) l)
+    subst (λ (t : List ℕ). FoundAt (p .number) t (length (bytesOf ps)) (recordOf p)) (sym (i .form b)) (found-payload (length s) ps p qs (i .rising) (i .fits) l)
 
 pub asked-refused : AskedRefused
 asked-refused s n h =
@@ -271,8 +271,8 @@ added-is-found s p b z =
     let s-is = i .form b in
     let m = more-plots (length s) (t .plots) p start (i .rising) (i .fits) l (ap (added p) (sym s-is) ∙ e) in
     let new : payloadWith p s ≡ payloadOf (length s) (t .plots ++ p ∷ []) = ap (payloadWith p) s-is ∙ write-one-more (length s) (t .plots) p (m .0) (m .1) l in (
-      subst (λ (x : List ℕ). Found (p .number) x start (recordOf p)) (sym new)
-          (subst (λ (k : ℕ). Found (p .number) (payloadOf (length s) (t .plots ++ p ∷ [])) k (recordOf p)) (sym (m .2)) (found-payload (length s) (t .plots) p [] (m .0) (m .1) l)),
+      subst (λ (x : List ℕ). FoundAt (p .number) x start (recordOf p)) (sym new)
+          (subst (λ (k : ℕ). FoundAt (p .number) (payloadOf (length s) (t .plots ++ p ∷ [])) k (recordOf p)) (sym (m .2)) (found-payload (length s) (t .plots) p [] (m .0) (m .1) l)),
       (λ n h. (
         ap (located n) new ∙ located-other (length s) (t .plots) p (m .0) (m .1) l n h ∙ sym (ap (located n) s-is),
         ap (asked n) new ∙ asked-other (length s) (t .plots) p (m .0) (m .1) l n h ∙ sym (ap (asked n) s-is),

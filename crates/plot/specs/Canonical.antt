@@ -63,7 +63,7 @@ AcceptedForm =
     → (reading s ≡ Plots ps (length (bytesOf ps))) ↔ (Rising 0 ps × (length (bytesOf ps) ≤ length s) × (s ≡ payloadOf (length s) ps))
 
 -- asking s for plot n gives `bytes`, and the companion entry says that they begin at `first`
-pub record Found (n : ℕ) (s : List ℕ) (first : ℕ) (bytes : List ℕ) : Type 0 where
+pub record FoundAt (n : ℕ) (s : List ℕ) (first : ℕ) (bytes : List ℕ) : Type 0 where
   pub number : locatedNumber (located n s) ≡ 0
   pub start : locatedStart (located n s) ≡ first
   pub size : locatedLength (located n s) ≡ length bytes
@@ -73,7 +73,7 @@ pub record Found (n : ℕ) (s : List ℕ) (first : ℕ) (bytes : List ℕ) : Typ
 abbrev pub AskedIsRecord : Type 0
 AskedIsRecord =
     (s : List ℕ) (ps qs : List Plot) (p : Plot) (end : ℕ) → Bytes s → reading s ≡ Plots (ps ++ p ∷ qs) end
-    → Found (p .number) s (length (bytesOf ps)) (recordOf p)
+    → FoundAt (p .number) s (length (bytesOf ps)) (recordOf p)
 
 -- R3: "After a refusal that part is empty"
 abbrev pub AskedRefused : Type 0
@@ -85,7 +85,7 @@ AskedRefused =
 abbrev pub AddedIsFound : Type 0
 AddedIsFound =
     (s : List ℕ) (p : Plot) → Bytes s → addedNumber (added p s) ≡ 0
-    → Found (p .number) (payloadWith p s) (addedStart (added p s)) (recordOf p)
+    → FoundAt (p .number) (payloadWith p s) (addedStart (added p s)) (recordOf p)
     × ((n : ℕ) → p .number ≢ n → (located n (payloadWith p s) ≡ located n s) × (asked n (payloadWith p s) ≡ asked n s))
 
 -- E4: "Every lent buffer is unchanged"

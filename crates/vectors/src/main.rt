@@ -3,7 +3,6 @@
 // rust/second/src/bin/vectors/main.rs says what a vector is. It begins with a byte for the operation (0 correct, 1 write, 2 check a block;
 // 3 write, 4 read a sheet; 5 check a payload, 6 ask it for a plot, 7 add a plot to it); a word is two bytes, the low one first.
 ghost use Prim.Native.Nat.{_<_, _≤_};
-use block::Checked;
 use block::Profile;
 use libc::STDIN_FILENO;
 use libc::STDOUT_FILENO;
@@ -121,8 +120,8 @@ fn correct(p: Profile) {
     let mut second = [170u8; 512];
     let out = part(&mut second);
     let v = block::correct(p, read, out);
-    two(block::verdict_number(v), block::verdict_start(v));
-    next(block::verdict_length(v));
+    two(v.number(), v.start());
+    next(v.length());
     cells(out);
 }
 
@@ -131,24 +130,15 @@ fn write(p: Profile) {
     let message = buffer(&mut space);
     let mut second = [170u8; 512];
     let out = part(&mut second);
-    first(block::written_number(block::write(p, message, out)));
+    first(block::write(p, message, out).number());
     cells(out);
-}
-
-fn is_clean(c: Checked) -> usize {
-    match c {
-        Checked::Clean => 1,
-        Checked::NotClean => 0,
-        Checked::BadProfile => 0,
-        Checked::WrongLength => 0,
-    }
 }
 
 fn check(p: Profile) {
     let mut space = [0u8; 4096];
     let read = buffer(&mut space);
     let c = block::check(p, read);
-    two(block::checked_number(c), is_clean(c));
+    two(c.number(), c.clean());
 }
 
 // ---- sheets
@@ -158,7 +148,7 @@ fn write_sheet(p: Profile) {
     let payload = buffer(&mut first_space);
     let mut second_space = [0u8; 4096];
     let sheet = buffer(&mut second_space);
-    two(block::written_number(sheet::write(p, payload, sheet)), 0);
+    two(sheet::write(p, payload, sheet).number(), 0);
     cells(sheet);
 }
 

@@ -12,7 +12,7 @@ const PAGES: [&str; 8] = [
     "docs/PROMISES.md",
     "examples/README.md",
 ];
-const FOLDERS: [&str; 6] = ["crates/", "rust/", "docs/", "include/", "examples/", ".ci/"];
+const FOLDERS: [&str; 7] = ["crates/", "rust/", "docs/", "include/", "examples/", "tools/", ".ci/"];
 
 /// What stands between backquotes and looks like a path of the repository.
 fn references(page: &str) -> impl Iterator<Item = &str> {

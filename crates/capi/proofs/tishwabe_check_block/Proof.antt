@@ -1,8 +1,8 @@
 -- The checker's answer, at the profile of the five numbers, as its two numbers.
 use mathlib.Core.Path.{ap, _∙_}
 use Rattle.block.specs.declared.Profile.{Profile}
-use Rattle.block.specs.Block.{checkedNumber, checkAnswer}
-use Rattle.capi.specs.Numbers.{cleanFlag}
+use Rattle.block.specs.Block.{checkAnswer}
+use Rattle.block.specs.Numbers.{checkedNumber, checkedClean}
 use Rattle.capi.proofs.Laws.{number-of}
 use borrow.Author.Needs.{needs}
 use Rattle.capi.proofs.tishwabe_check_block.Statement.{statement}
@@ -14,17 +14,17 @@ profile-of-requires c κs = search needs
 check-requires : tie.Need-check-requires
 check-requires c κs = search needs
 
-clean-flag-requires : tie.Need-clean-flag-requires
-clean-flag-requires c κs = search needs
+clean-requires : tie.Need-clean-requires
+clean-requires c κs = search needs
 
-checked-number-requires : tie.Need-checked-number-requires
-checked-number-requires c κs = search needs
+number-requires : tie.Need-number-requires
+number-requires c κs = search needs
 
 returns : tie.Need-returns
 returns c =
     let g = c .before .before .before .before .before .args in
     let a = c .before .before .check .ensures ∙ ap (λ (q : Profile). checkAnswer q (g .read .now)) (c .before .before .before .profile-of .ensures) in
-    (number-of checkedNumber _ _ _ (c .checked-number .ensures) a, number-of cleanFlag _ _ _ (c .before .clean-flag .ensures) a)
+    (number-of checkedNumber _ _ _ (c .number .ensures) a, number-of checkedClean _ _ _ (c .before .clean .ensures) a)
 
 pub tishwabe-check-block-spec : {M : Type 1} → statement M
 tishwabe-check-block-spec =
@@ -32,6 +32,6 @@ tishwabe-check-block-spec =
     (tie.spec
     profile-of-requires
     check-requires
-    clean-flag-requires
-    checked-number-requires
+    clean-requires
+    number-requires
     returns)

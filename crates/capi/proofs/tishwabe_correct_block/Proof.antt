@@ -1,7 +1,8 @@
 -- The corrector's answer and cells, at the profile of the five numbers, with the three numbers of the answer.
 use mathlib.Core.Path.{ap, _∙_}
 use Rattle.block.specs.declared.Profile.{Profile}
-use Rattle.block.specs.Block.{verdictNumber, verdictStart, verdictLength, correctAnswer, correctLeaves}
+use Rattle.block.specs.Block.{correctAnswer, correctLeaves}
+use Rattle.block.specs.Numbers.{verdictNumber, verdictStart, verdictLength}
 use Rattle.capi.proofs.Laws.{number-of}
 use borrow.Author.Needs.{needs}
 use Rattle.capi.proofs.tishwabe_correct_block.Statement.{statement}
@@ -13,14 +14,14 @@ profile-of-requires c κs = search needs
 correct-requires : tie.Need-correct-requires
 correct-requires c κs = search needs
 
-verdict-start-requires : tie.Need-verdict-start-requires
-verdict-start-requires c κs = search needs
+start-requires : tie.Need-start-requires
+start-requires c κs = search needs
 
-verdict-length-requires : tie.Need-verdict-length-requires
-verdict-length-requires c κs = search needs
+length-requires : tie.Need-length-requires
+length-requires c κs = search needs
 
-verdict-number-requires : tie.Need-verdict-number-requires
-verdict-number-requires c κs = search needs
+number-requires : tie.Need-number-requires
+number-requires c κs = search needs
 
 same-length : tie.Need-same-length
 same-length c = search needs
@@ -31,11 +32,11 @@ returns c =
     let p = c .before .before .before .before .before .before .before .profile-of .ensures in
     let w = c .before .before .before .before .before .correct .ensures in
     let a = w .0 ∙ ap (λ (q : Profile). correctAnswer q (g .read .now) (g .out .now)) p in (
-      number-of verdictNumber _ _ _ (c .verdict-number .ensures) a,
+      number-of verdictNumber _ _ _ (c .number .ensures) a,
       (
-        number-of verdictStart _ _ _ (c .before .before .verdict-start .ensures) a,
+        number-of verdictStart _ _ _ (c .before .before .start .ensures) a,
         (
-          number-of verdictLength _ _ _ (c .before .verdict-length .ensures) a,
+          number-of verdictLength _ _ _ (c .before .length .ensures) a,
           w .1 ∙ ap (λ (q : Profile). correctLeaves q (g .read .now) (g .out .now)) p,
         ),
       ),
@@ -47,8 +48,8 @@ tishwabe-correct-block-spec =
     (tie.spec
     profile-of-requires
     correct-requires
-    verdict-start-requires
-    verdict-length-requires
-    verdict-number-requires
+    start-requires
+    length-requires
+    number-requires
     same-length
     returns)

@@ -2,7 +2,7 @@
 use mathlib.Core.Path.{ap, _∙_}
 use Rattle.block.specs.declared.Profile.{Profile}
 use Rattle.sheet.specs.Sheet.{readAnswer, readScratch, readPayload}
-use Rattle.capi.specs.Numbers.{readingNumber, readingPlace, readingChanged}
+use Rattle.sheet.specs.Numbers.{readingNumber, readingPlace, readingChanged}
 use Rattle.capi.proofs.Laws.{number-of}
 use borrow.Author.Needs.{needs}
 use Rattle.capi.proofs.tishwabe_read_sheet.Statement.{statement}
@@ -14,14 +14,14 @@ profile-of-requires c κs = search needs
 read-requires : tie.Need-read-requires
 read-requires c κs = search needs
 
-reading-changed-requires : tie.Need-reading-changed-requires
-reading-changed-requires c κs = search needs
+changed-requires : tie.Need-changed-requires
+changed-requires c κs = search needs
 
-reading-place-requires : tie.Need-reading-place-requires
-reading-place-requires c κs = search needs
+place-requires : tie.Need-place-requires
+place-requires c κs = search needs
 
-reading-number-requires : tie.Need-reading-number-requires
-reading-number-requires c κs = search needs
+number-requires : tie.Need-number-requires
+number-requires c κs = search needs
 
 same-length : tie.Need-same-length
 same-length c = search needs
@@ -35,11 +35,11 @@ returns c =
     let p = c .before .before .before .before .before .before .before .before .before .before .profile-of .ensures in
     let w = c .before .before .before .before .before .before .before .read .ensures in
     let a = w .0 ∙ ap (λ (q : Profile). readAnswer q (g .sheet .now) (g .scratch .now) (g .payload .now)) p in (
-      number-of readingNumber _ _ _ (c .reading-number .ensures) a,
+      number-of readingNumber _ _ _ (c .number .ensures) a,
       (
-        number-of readingChanged _ _ _ (c .before .before .reading-changed .ensures) a,
+        number-of readingChanged _ _ _ (c .before .before .changed .ensures) a,
         (
-          number-of readingPlace _ _ _ (c .before .reading-place .ensures) a,
+          number-of readingPlace _ _ _ (c .before .place .ensures) a,
           (
             w .1 .0 ∙ ap (λ (q : Profile). readScratch q (g .sheet .now) (g .scratch .now) (g .payload .now)) p,
             w .1 .1 ∙ ap (λ (q : Profile). readPayload q (g .sheet .now) (g .scratch .now) (g .payload .now)) p,
@@ -54,9 +54,9 @@ tishwabe-read-sheet-spec =
     (tie.spec
     profile-of-requires
     read-requires
-    reading-changed-requires
-    reading-place-requires
-    reading-number-requires
+    changed-requires
+    place-requires
+    number-requires
     same-length
     same-length-2
     returns)
