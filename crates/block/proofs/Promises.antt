@@ -89,7 +89,7 @@ clean-iff p y v h =
       accepted = checked-accepted p y v h;
       syndromes = (λ q. b .0 (a .0 q), λ s. a .1 (b .1 s));
       codeword = a;
-      else = flag-else p y v h;
+      otherwise = flag-else p y v h;
     }
 
 -- ---- the corrector

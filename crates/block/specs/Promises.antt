@@ -33,7 +33,7 @@ pub record CalledClean (p : Profile) (y : List ℕ) : Type 0 where
   pub accepted : checkedNumber (checkAnswer p y) ≡ 0
   pub syndromes : (checkedClean (checkAnswer p y) ≡ 1) ↔ ((i : ℕ) → i < p .r → syndrome (p .b) i y ≡ 0)
   pub codeword : (checkedClean (checkAnswer p y) ≡ 1) ↔ Word p y
-  pub else : checkedClean (checkAnswer p y) ≢ 1 → checkedClean (checkAnswer p y) ≡ 0
+  pub otherwise : checkedClean (checkAnswer p y) ≢ 1 → checkedClean (checkAnswer p y) ≡ 0
 
 abbrev pub CleanIff : Type 0
 CleanIff = (p : Profile) (y : List ℕ) → InRange p → Cells p y → CalledClean p y

@@ -10,6 +10,7 @@ use Rattle.sheet.proofs.Refusals.{sheet-refusals}
 use Rattle.sheet.proofs.Promise.{sheet-promise}
 use Rattle.sheet.proofs.Examples.{starred-examples}
 use Rattle.plot.proofs.Canonical.{written-as-read, read-as-written, accepted-form, asked-is-record, asked-refused, added-is-found, refused-unchanged, full-exactly}
+use Rattle.plot.proofs.TooLong.{too-long}
 use Rattle.plot.proofs.Sheets.{written-reads-as-plots, same-after-damage}
 use Rattle.listing.proofs.Cases.{listed-short}
 use Rattle.listing.proofs.Theorems.{whole-text}
@@ -20,6 +21,7 @@ demands = record {
   first = record {
     blocks = block-refusals;
     sheets = sheet-refusals;
+    payloads = too-long;
     asking = asked-refused;
     adding = refused-unchanged;
     listing = λ input l. sym (listed-short input l);
@@ -38,7 +40,7 @@ demands = record {
   third = record {
     none = uncorrectable-iff;
     two = ambiguous-iff;
-    else = exactly-one;
+    otherwise = exactly-one;
     one = corrected-iff;
     reading = read-results;
     writing = writes-sheet;

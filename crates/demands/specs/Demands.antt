@@ -16,6 +16,7 @@ use Rattle.sheet.specs.Theorems.{Places, TakenApart, WritesSheet, ReadResults, 
 use Rattle.sheet.specs.Promise.{Damaged, ReadsBack}
 use Rattle.sheet.specs.Examples.{StarredExamples}
 use Rattle.plot.specs.Canonical.{WrittenAsRead, ReadAsWritten, AcceptedForm, AskedIsRecord, AskedRefused, AddedIsFound, RefusedUnchanged, FullExactly}
+use Rattle.plot.specs.Refusals.{TooLong}
 use Rattle.plot.specs.Sheets.{WrittenReadsAsPlots, SameAfterDamage}
 use Rattle.listing_text.specs.Text.{refusalText}
 use Rattle.listing.specs.Listing.{listed}
@@ -28,6 +29,7 @@ pub record Demand1 : Type 0 where
   -- ".. refuses faulty input itself with the numbers of document 01, and after a refusal each lent buffer holds what document 01 says."
   pub blocks : (p : Profile) → BlockRefusals p
   pub sheets : (p : Profile) → SheetRefusals p
+  pub payloads : (s : List ℕ) → TooLong s
   pub asking : AskedRefused
   pub adding : RefusedUnchanged
   pub listing : (input : List ℕ) → length input < 5 → listed input ≡ refusalText 1 0
@@ -57,7 +59,7 @@ pub record Demand3 : Type 0 where
   pub two : AmbiguousIff
   -- "Else it is mended to the codeword that differs from it inside the shortest run, every other codeword lying within longer runs only; the result is that
   -- run's start and length, 0 and 0 if clean."
-  pub else : ExactlyOne
+  pub otherwise : ExactlyOne
   pub one : CorrectedIff
   -- "A sheet is refused exactly when a block of it is, with the lowest such block's number and reason; else its payload is the message bytes of all its
   -- blocks as mended, in document 01's order."

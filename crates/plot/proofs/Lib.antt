@@ -7,3 +7,4 @@ pub mod Complete
 pub mod Canonical
 pub mod Sheets
 pub mod Ranges
+pub mod TooLong

@@ -3,4 +3,5 @@ pub mod Grammar
 pub mod Answers
 pub mod Numbers
 pub mod Canonical
+pub mod Refusals
 pub mod Sheets
