@@ -6,7 +6,7 @@ use native.Mathlib.Nat.{le-of-eq}
 use native.Mathlib.Omega.{arith}
 use lib.ListN.{length, take, drop, length-append, drop-of-length-le}
 use lib.Seq.{length-take-le, take-at, drop-at}
-use borrow.Rule.Slice.PartMut.{midOf, putMid}
+use borrow.Rule.Slice.PartMut.{putMid}
 
 pub laid-law : (checks message cells last₁ last₂ : List ℕ) (r : ℕ) → r ≤ length checks → length cells ≡ r + length message → last₁ ≡ take r checks → last₂ ≡ message
     → putMid r (length (last₁ ++ drop r cells) - r) (last₁ ++ drop r cells) last₂ ≡ take r checks ++ message

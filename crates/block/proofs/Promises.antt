@@ -10,19 +10,18 @@ use lib.Dec.{eqb, ltb}
 use lib.ListN.{length, drop}
 use borrow.Author.Tests.{eq-eqb, eqb-true}
 use Rattle.lists.specs.Choice.{pick, both}
-use Rattle.lists.proofs.Test.{true-or-false, true-false, both-true, pick-of}
+use Rattle.lists.proofs.Test.{true-or-false, both-true, pick-of}
 use Rattle.code.specs.Code.{syndrome, generator, remainder}
 use Rattle.code.specs.Search.{Best, extent, extents, scanned}
 use Rattle.code.proofs.Division.{codeword-syndromes, syndromes-codeword}
 use Rattle.block.specs.Profile.{InRange, InRangeIff, messageLength}
 use Rattle.block.specs.Block.{refusing, encode, isClean, decided, judged, verdict, corrected, filled, writeFits, writeAnswer, writeLeaves, checkAnswer, correctFits, correctAnswer, correctLeaves}
-use Rattle.block.specs.Numbers.{verdictNumber, verdictStart, verdictLength, writtenNumber, writtenPlace, checkedNumber, checkedPlace, checkedClean}
-use Rattle.block.specs.Runs.{Cells, Word, NoneReached, TwoReached, OneReached}
-use Rattle.block.specs.Promises.{WritesCodeword, CalledClean, CleanIff, LentBlock, UncorrectableIff, AmbiguousIff, Corrects, CorrectedIff, HalfPromise, DepthFree, EarlyRefusals, WriteRefusals, CheckRefusals, CorrectRefusals, BlockRefusals}
+use Rattle.block.specs.Numbers.{verdictNumber, verdictStart, verdictLength, writtenNumber, checkedNumber, checkedClean}
+use Rattle.block.specs.Runs.{Cells, Word, OneReached}
+use Rattle.block.specs.Promises.{WritesCodeword, CleanIff, LentBlock, UncorrectableIff, AmbiguousIff, Corrects, CorrectedIff, HalfPromise, DepthFree, WriteRefusals, CheckRefusals, CorrectRefusals, BlockRefusals}
 use Rattle.block.specs.declared.Profile.{Profile}
 use Rattle.block.specs.declared.Verdict.{Verdict}
 use Rattle.block.specs.declared.Verdict.the-variants as verdicts
-use Rattle.block.specs.declared.Written.{Written}
 use Rattle.block.specs.declared.Written.the-variants as writes
 use Rattle.block.specs.declared.Checked.{Checked}
 use Rattle.block.specs.declared.Checked.the-variants as checks

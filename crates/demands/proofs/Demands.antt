@@ -5,6 +5,7 @@ use Rattle.code.proofs.Theorems.{codeword-iff-syndromes, minimum-distance, long
 use Rattle.block.proofs.Verdicts.{exactly-one}
 use Rattle.block.proofs.Promises.{in-range-iff, writes-codeword, clean-iff, uncorrectable-iff, ambiguous-iff, corrected-iff, depth-free, half-promise, block-refusals}
 use Rattle.sheet.proofs.Apart.{places, taken-apart}
+use Rattle.sheet.proofs.Verdicts.{differ-iff}
 use Rattle.sheet.proofs.Theorems.{writes-sheet, read-results}
 use Rattle.sheet.proofs.Refusals.{sheet-refusals}
 use Rattle.sheet.proofs.Promise.{sheet-promise}
@@ -59,6 +60,7 @@ beside = record {
   ranges = in-range-iff;
   depth-free = depth-free;
   half-run = half-promise;
+  differing = differ-iff;
   apart = taken-apart;
   untouched = λ p m cells scratch out v h c b. sheet-promise p m cells v h c .back scratch out b;
   read-as-written = read-as-written;

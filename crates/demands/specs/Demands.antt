@@ -12,7 +12,7 @@ use Rattle.block.specs.declared.Profile.{Profile}
 use Rattle.sheet.specs.Sheet.{writeSheetLeaves, readAnswer, readPayload}
 use Rattle.sheet.specs.Numbers.{readingNumber}
 use Rattle.sheet.specs.Buffers.{Payload, Lent}
-use Rattle.sheet.specs.Theorems.{Places, TakenApart, WritesSheet, ReadResults, SheetRefusals}
+use Rattle.sheet.specs.Theorems.{Places, TakenApart, DifferIff, WritesSheet, ReadResults, SheetRefusals}
 use Rattle.sheet.specs.Promise.{Damaged, ReadsBack}
 use Rattle.sheet.specs.Examples.{StarredExamples}
 use Rattle.plot.specs.Canonical.{WrittenAsRead, ReadAsWritten, AcceptedForm, AskedIsRecord, AskedRefused, AddedIsFound, RefusedUnchanged, FullExactly}
@@ -95,6 +95,8 @@ pub record Beside : Type 0 where
   pub depth-free : DepthFree
   -- of one block, what Demand3 says of a sheet's scratch
   pub half-run : HalfPromise
+  -- `differ`, by which changed blocks are counted, is what it says
+  pub differing : DifferIff
   -- blocks and messages, put together and taken apart again
   pub apart : (D : ℕ) → TakenApart D
   -- a written sheet, read as it was written, gives its payload back with no block changed

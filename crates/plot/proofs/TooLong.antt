@@ -1,5 +1,5 @@
 -- Refusal 2 comes exactly where the payload is too long: no check of a record answers it, and neither does asking or adding on a payload that was read.
-use mathlib.Core.Path.{_≡_, refl, sym, ap, _∙_}
+use mathlib.Core.Path.{_≡_}
 use mathlib.Core.Logic.{_↔_, _≢_, ⊎-elim}
 use mathlib.Core.Bool.{Bool, true, false, not}
 use mathlib.Core.List.{List, [], _∷_}
@@ -10,18 +10,16 @@ use lib.Dec.{ltb, leb, eqb}
 use borrow.Author.Tests.{lt-ltb, ltb-true}
 use Rattle.lists.specs.Choice.{pick}
 use Rattle.lists.proofs.Test.{true-or-false, pick-of}
-use Rattle.plot.specs.declared.Refusal.{Refusal}
-use Rattle.plot.specs.declared.Refusal.the-variants.{WrongLength, BadMark, CutShort, BadTally, PlotOrder, NoSuchPlot, Full}
+use Rattle.plot.specs.declared.Refusal.the-variants.{WrongLength, BadMark, CutShort, BadTally, PlotOrder, Full}
 use Rattle.plot.specs.declared.Step.{Step}
 use Rattle.plot.specs.declared.Step.the-variants.{Record, End, Refused}
 use Rattle.plot.specs.declared.Located.{Located}
 use Rattle.plot.specs.declared.Located.the-variants as located-as
-use Rattle.plot.specs.declared.Added.{Added}
 use Rattle.plot.specs.declared.Added.the-variants as added-as
 use Rattle.plot.specs.Layout.{Plot, mark, headerLength, plotOf, countOf, recordLength, noLine, linesHold, linesOf, recordOf}
 use Rattle.plot.specs.Grammar.{allZero, agree, headAt, stepAt, Parsed, Plots, Stopped, onto, readStep, readFrom, longest, reading}
 use Rattle.plot.specs.Answers.{lastNumber, checkedOf, checked, seek, locatedOf, located, linesFit, roomFor, addedOf, added}
-use Rattle.plot.specs.Numbers.{numberOf, payloadNumber, payloadPlace, locatedNumber, locatedPlace, addedNumber, addedPlace}
+use Rattle.plot.specs.Numbers.{numberOf, payloadNumber, locatedNumber, addedNumber}
 use Rattle.plot.specs.Refusals.{TooLong}
 
 -- ---- the reading of records never answers 2

@@ -1,13 +1,11 @@
 -- The promise of specs/Promise.antt. Each block of a damaged sheet agrees with the written block outside a run of at most h cells, so
 -- it is corrected to it by the block's promise; a written block is its own codeword.
 use mathlib.Core.Path.{_≡_, refl, sym, ap, subst, _∙_}
-use mathlib.Core.Logic.{_⊎_, ⊎-elim}
-use mathlib.Core.Bool.{true}
+use mathlib.Core.Logic.{⊎-elim}
 use mathlib.Core.List.{List}
 use Prim.Native.Nat.{ℕ, _+_, _*_, _≤_, _<_, zero-le}
 use native.Mathlib.Omega.{arith}
-use lib.ListN.{length, getD, drop}
-use borrow.Author.Tests.{eq-eqb}
+use lib.ListN.{getD, drop}
 use Rattle.lists.specs.Choice.{pick}
 use Rattle.code.specs.Run.{Outside}
 use Rattle.block.specs.Profile.{InRange, messageLength, half}
@@ -18,7 +16,7 @@ use Rattle.block.proofs.Verdicts.{exactly-one, verdict-one, verdict-half}
 use Rattle.sheet.specs.Sheet.{messageOf, writtenBlock, writtenSheet, writeSheetLeaves, readBlock, differ}
 use Rattle.sheet.specs.Buffers.{Payload, Lent, differing}
 use Rattle.sheet.specs.Theorems.{HasWord, AllWords}
-use Rattle.sheet.specs.Promise.{ReadsBack, Damaged, Promised, SheetPromise}
+use Rattle.sheet.specs.Promise.{ReadsBack, Damaged, SheetPromise}
 use Rattle.sheet.proofs.Places.{cell-inside}
 use Rattle.sheet.proofs.Apart.{block-cell, same-joined, joined-messages}
 use Rattle.sheet.proofs.Verdicts.{differ-self}

@@ -1,6 +1,6 @@
 -- Every refusal of the entries on a sheet: the laws of `refusing` say exactly when 1 and 2 come, and what the blocks answer is none of them.
-use mathlib.Core.Path.{_≡_, refl, sym, ap, _∙_}
-use mathlib.Core.Logic.{_↔_, _≢_, _⊎_, ⊎-elim}
+use mathlib.Core.Path.{_≡_, refl, sym}
+use mathlib.Core.Logic.{_≢_, _⊎_, ⊎-elim}
 use mathlib.Core.Bool.{Bool, true, false}
 use mathlib.Core.List.{List}
 use Prim.Native.Nat.{ℕ, zero, suc, _+_, _*_}
@@ -8,8 +8,8 @@ use native.Mathlib.Omega.{arith}
 use lib.ListN.{length, replicate}
 use Rattle.lists.specs.Choice.{pick}
 use Rattle.lists.proofs.Test.{pick-of, true-or-false, true-false}
-use Rattle.block.specs.Profile.{InRange, inRange, messageLength}
-use Rattle.block.specs.Numbers.{verdictNumber, writtenNumber}
+use Rattle.block.specs.Profile.{inRange, messageLength}
+use Rattle.block.specs.Numbers.{writtenNumber}
 use Rattle.block.specs.Promises.{EarlyRefusals}
 use Rattle.block.specs.declared.Profile.{Profile}
 use Rattle.block.specs.declared.Written.the-variants as writes

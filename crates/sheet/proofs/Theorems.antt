@@ -1,7 +1,7 @@
 -- The theorems of specs/Theorems.antt. On buffers of the right lengths the entry answers by its blocks; each block's verdict says what
 -- the block's promises say of it.
-use mathlib.Core.Path.{_≡_, refl, sym, ap, subst, _∙_}
-use mathlib.Core.Logic.{_↔_, _≢_, _⊎_, inl, inr, ⊎-elim}
+use mathlib.Core.Path.{_≡_, sym, ap, _∙_}
+use mathlib.Core.Logic.{_≢_, _⊎_, inl, inr, ⊎-elim}
 use mathlib.Core.Bool.{Bool, true, false}
 use mathlib.Core.List.{List}
 use Prim.Native.Nat.{ℕ, _+_, _*_, _/_, _%_, _<_}
@@ -10,19 +10,15 @@ use lib.ListN.{length, getD, drop, replicate}
 use lib.Seq.{getD-drop}
 use Rattle.lists.specs.Choice.{pick}
 use Rattle.lists.specs.Bytes.{Bytes}
-use Rattle.lists.proofs.Test.{true-or-false}
 use Rattle.block.specs.Profile.{InRange, messageLength}
-use Rattle.block.specs.Block.{encode}
 use Rattle.block.specs.Numbers.{verdictNumber, writtenNumber}
 use Rattle.block.specs.Runs.{Cells, Word}
 use Rattle.block.specs.declared.Profile.{Profile}
-use Rattle.block.specs.declared.Verdict.{Verdict}
-use Rattle.block.proofs.Ranges.{in-range}
 use Rattle.block.proofs.Encoding.{encode-codeword, encode-message}
 use Rattle.sheet.specs.declared.Refusal.the-variants.{Block}
 use Rattle.sheet.specs.declared.Reading.{Reading}
 use Rattle.sheet.specs.declared.Reading.the-variants.{Refused, Accepted}
-use Rattle.sheet.specs.Sheet.{messageOf, interleave, joined, writtenBlock, writtenSheet, writeSheetAnswer, writeSheetLeaves, readBlock, blockVerdict, codeword, isCorrected, isAccepted, differ, changedAt, sheetAnswer, sheetPayload, readAnswer, readScratch, readPayload}
+use Rattle.sheet.specs.Sheet.{messageOf, interleave, joined, writtenBlock, writtenSheet, writeSheetLeaves, readBlock, blockVerdict, codeword, isCorrected, isAccepted, differ, changedAt, sheetAnswer, sheetPayload, readAnswer, readScratch, readPayload}
 use Rattle.sheet.specs.Numbers.{readingNumber, readingPlace, readingChanged}
 use Rattle.sheet.specs.Buffers.{Payload, Sheet, Lent, differing}
 use Rattle.sheet.specs.Theorems.{WrittenSheet, WritesSheet, HasWord, RefusedBy, LowestRefused, AllWords, Accepts, ReadResults}

@@ -4,12 +4,11 @@ use mathlib.Core.Path.{_≡_, refl, sym, ap, ap₂, subst, _∙_}
 use mathlib.Core.Logic.{_≢_, _⊎_, inl, inr, ⊎-elim}
 use mathlib.Core.Bool.{true, false}
 use mathlib.Core.List.{List, [], _∷_}
-use Prim.Native.Nat.{ℕ, _<_}
-use native.Mathlib.Omega.{arith}
+use Prim.Native.Nat.{ℕ}
 use lib.Dec.{eqb}
 use borrow.Author.Tests.{eq-eqb, ne-eqb, eqb-true}
 use Rattle.lists.specs.Choice.{pick}
-use Rattle.lists.proofs.Test.{lt-or-ge, zero-or, true-or-false, true-false}
+use Rattle.lists.proofs.Test.{zero-or, true-or-false, true-false}
 use Rattle.block.specs.Profile.{InRange}
 use Rattle.block.specs.Block.{verdict, corrected}
 use Rattle.block.specs.Numbers.{verdictNumber}
