@@ -9,7 +9,7 @@ use Rattle.sheet.proofs.Verdicts.{differ-iff}
 use Rattle.sheet.proofs.Theorems.{writes-sheet, read-results}
 use Rattle.sheet.proofs.Refusals.{sheet-refusals}
 use Rattle.sheet.proofs.Promise.{sheet-promise}
-use Rattle.sheet.proofs.Examples.{starred-examples}
+use Rattle.demands.proofs.Examples.{starred-examples}
 use Rattle.plot.proofs.Canonical.{written-as-read, read-as-written, accepted-form, asked-is-record, asked-refused, added-is-found, refused-unchanged, full-exactly}
 use Rattle.plot.proofs.TooLong.{too-long}
 use Rattle.plot.proofs.Sheets.{written-reads-as-plots, same-after-damage}

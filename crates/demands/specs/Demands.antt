@@ -14,7 +14,7 @@ use Rattle.sheet.specs.Numbers.{readingNumber}
 use Rattle.sheet.specs.Buffers.{Payload, Lent}
 use Rattle.sheet.specs.Theorems.{Places, TakenApart, DifferIff, WritesSheet, ReadResults, SheetRefusals}
 use Rattle.sheet.specs.Promise.{Damaged, ReadsBack}
-use Rattle.sheet.specs.Examples.{StarredExamples}
+use Rattle.demands.specs.Examples.{StarredExamples}
 use Rattle.plot.specs.Canonical.{WrittenAsRead, ReadAsWritten, AcceptedForm, AskedIsRecord, AskedRefused, AddedIsFound, RefusedUnchanged, FullExactly}
 use Rattle.plot.specs.Refusals.{TooLong}
 use Rattle.plot.specs.Sheets.{WrittenReadsAsPlots, SameAfterDamage}

@@ -7,7 +7,6 @@ pub mod Theorems
 pub mod Refusals
 pub mod Runs
 pub mod Promise
-pub mod Examples
 pub mod Entry
 pub mod Steps
 pub mod Accepted

@@ -19,9 +19,9 @@ use Rattle.block.specs.declared.Profile.{Profile}
 use Rattle.block.specs.declared.Verdict.the-variants.{Corrected}
 use Rattle.block.proofs.Ranges.{in-range}
 use Rattle.block.proofs.Answers.{write-accepted, block-written, block-answer, block-leaves}
 use Rattle.sheet.specs.Sheet.{interleave, messageOf, writtenBlock, writtenSheet, writeSheetAnswer, writeSheetLeaves}
-use Rattle.sheet.specs.Examples.{small, wide, StarredExamples}
+use Rattle.demands.specs.Examples.{small, wide, StarredExamples}
 use Rattle.sheet.proofs.Entry.{write-rest}
 
 abbrev read : List ℕ
 read = 8 ∷ 14 ∷ 0 ∷ 0 ∷ []
