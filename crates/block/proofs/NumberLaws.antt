@@ -1,16 +1,14 @@
--- Which answer has which number, place and values. Each goes by the cases of the answer.
+-- Which answer has which number and values. Each goes by the cases of the answer.
 use mathlib.Core.Path.{_≡_, refl}
 use mathlib.Core.Logic.{_≢_}
 use mathlib.Core.List.{List, []}
 use Prim.Native.Nat.{ℕ, _≤_}
 use native.Mathlib.Omega.{arith}
 use Rattle.block.specs.Block.{filled}
-use Rattle.block.specs.Numbers.{verdictNumber, verdictPlace, verdictStart, verdictLength, writtenPlace, checkedNumber, checkedPlace, checkedClean}
+use Rattle.block.specs.Numbers.{verdictNumber, verdictStart, verdictLength, checkedNumber, checkedClean}
 use Rattle.block.specs.declared.Profile.{Profile}
 use Rattle.block.specs.declared.Verdict.{Verdict}
 use Rattle.block.specs.declared.Verdict.the-variants.{BadProfile, WrongLength, Uncorrectable, Ambiguous, Corrected}
-use Rattle.block.specs.declared.Written.{Written}
-use Rattle.block.specs.declared.Written.the-variants as writes
 use Rattle.block.specs.declared.Checked.{Checked}
 use Rattle.block.specs.declared.Checked.the-variants as checks
 
@@ -43,14 +41,7 @@ number-most Uncorrectable = omega arith
 number-most Ambiguous = omega arith
 number-most (Corrected s f) = omega arith
 
--- the place is 0, and beside a refusal start and length are
-pub place-0 : (w : Verdict) → verdictPlace w ≡ 0
-place-0 BadProfile = refl
-place-0 WrongLength = refl
-place-0 Uncorrectable = refl
-place-0 Ambiguous = refl
-place-0 (Corrected s f) = refl
-
+-- beside a refusal start and length are 0
 pub no-run : (w : Verdict) → verdictNumber w ≢ 0 → (verdictStart w ≡ 0) × (verdictLength w ≡ 0)
 no-run BadProfile n = (refl, refl)
 no-run WrongLength n = (refl, refl)
@@ -75,18 +66,7 @@ filled-kept p y out Uncorrectable n = refl
 filled-kept p y out Ambiguous n = refl
 filled-kept p y out (Corrected s f) n = absurd (n refl)
 
--- the writer and the checker have place 0 too, and the checker's flag is 0 beside a refusal
-pub written-place-0 : (w : Written) → writtenPlace w ≡ 0
-written-place-0 writes.BadProfile = refl
-written-place-0 writes.WrongLength = refl
-written-place-0 writes.Done = refl
-
-pub checked-place-0 : (w : Checked) → checkedPlace w ≡ 0
-checked-place-0 checks.BadProfile = refl
-checked-place-0 checks.WrongLength = refl
-checked-place-0 checks.Clean = refl
-checked-place-0 checks.NotClean = refl
-
+-- beside a refusal the checker's flag is 0
 pub not-called : (w : Checked) → checkedNumber w ≢ 0 → checkedClean w ≡ 0
 not-called checks.BadProfile n = refl
 not-called checks.WrongLength n = refl

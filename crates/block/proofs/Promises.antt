@@ -27,7 +27,7 @@ use Rattle.block.specs.declared.Checked.{Checked}
 use Rattle.block.specs.declared.Checked.the-variants as checks
 use Rattle.block.proofs.Ranges.{in-range}
 use Rattle.block.proofs.Refusing.{early-of, kept-of}
-use Rattle.block.proofs.NumberLaws.{number-0, number-3, number-4, place-0, no-run, written-place-0, checked-place-0, not-called}
+use Rattle.block.proofs.NumberLaws.{number-0, number-3, number-4, no-run, not-called}
 use Rattle.block.proofs.Shortest.{clean-word, word-clean}
 use Rattle.block.proofs.Encoding.{encode-message, encode-codeword, same-message}
 use Rattle.block.proofs.Verdicts.{verdict-none, verdict-two, verdict-one, verdict-half, same-verdict, same-filled}
@@ -166,7 +166,7 @@ module _ (p : Profile) (m out : List ℕ) where
     early =
         early-of p (writeFits p m out) _ (two-lengths (length m) (length out) (messageLength p) (p .n)) writtenNumber writes.BadProfile writes.WrongLength writes.Done refl refl
         (λ q. omega arith) (λ q. omega arith);
-    place = written-place-0 (writeAnswer p m out);
+    place = refl;
     kept = λ n. kept-of p (writeFits p m out) writtenNumber writes.BadProfile writes.WrongLength writes.Done out (encode (p .b) (p .r) m) refl n;
   }
 
@@ -183,7 +183,7 @@ module _ (p : Profile) (y : List ℕ) where
     early =
         early-of p (eqb (length y) (p .n)) (length y ≡ p .n) (eqb-true (length y) (p .n), eq-eqb (length y) (p .n)) checkedNumber checks.BadProfile checks.WrongLength result refl refl
         (λ q. let z : checkedNumber result ≡ 0 = result-0 in omega arith) (λ q. let z : checkedNumber result ≡ 0 = result-0 in omega arith);
-    place = checked-place-0 (checkAnswer p y);
+    place = refl;
     flag = not-called (checkAnswer p y);
   }
 
@@ -212,7 +212,7 @@ module _ (p : Profile) (y out : List ℕ) where
     early =
         early-of p (correctFits p y out) _ (two-lengths (length y) (length out) (p .n) (p .n)) verdictNumber verdicts.BadProfile verdicts.WrongLength (verdict p y) refl refl
         (verdict-late p y .0) (verdict-late p y .1);
-    place = place-0 (correctAnswer p y out);
+    place = refl;
     kept = block-kept p y out;
     run = no-run (correctAnswer p y out);
   }

@@ -18,11 +18,7 @@ verdictNumber verdicts.Ambiguous = 4
 verdictNumber (verdicts.Corrected s f) = 0
 
 abbrev pub verdictPlace : Verdict → ℕ
-verdictPlace verdicts.BadProfile = 0
-verdictPlace verdicts.WrongLength = 0
-verdictPlace verdicts.Uncorrectable = 0
-verdictPlace verdicts.Ambiguous = 0
-verdictPlace (verdicts.Corrected s f) = 0
+verdictPlace answer = 0
 
 -- "the result is s and f"
 abbrev pub verdictStart : Verdict → ℕ
@@ -47,9 +43,7 @@ writtenNumber writes.WrongLength = 2
 writtenNumber writes.Done = 0
 
 abbrev pub writtenPlace : Written → ℕ
-writtenPlace writes.BadProfile = 0
-writtenPlace writes.WrongLength = 0
-writtenPlace writes.Done = 0
+writtenPlace answer = 0
 
 -- ---- checking: 1 misprint, 2 wrong frame, or 0; a block that is not clean is no refusal
 
@@ -60,10 +54,7 @@ checkedNumber checks.Clean = 0
 checkedNumber checks.NotClean = 0
 
 abbrev pub checkedPlace : Checked → ℕ
-checkedPlace checks.BadProfile = 0
-checkedPlace checks.WrongLength = 0
-checkedPlace checks.Clean = 0
-checkedPlace checks.NotClean = 0
+checkedPlace answer = 0
 
 -- "called clean": 1, and else 0
 abbrev pub checkedClean : Checked → ℕ

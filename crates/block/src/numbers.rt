@@ -26,16 +26,7 @@ impl Verdict {
     pub fn place(self) -> usize
         ensures { λ r. ⌜ r ≡ verdictPlace self ⌝ }
     {
-        match self {
-            Verdict::BadProfile => 0,
-            Verdict::WrongLength => 0,
-            Verdict::Uncorrectable => 0,
-            Verdict::Ambiguous => 0,
-            Verdict::Corrected {
-                start: _,
-                length: _,
-            } => 0,
-        }
+        0
     }
 
     /// The start of a corrected block's run; 0 beside a refusal.
@@ -81,11 +72,7 @@ impl Written {
     pub fn place(self) -> usize
         ensures { λ r. ⌜ r ≡ writtenPlace self ⌝ }
     {
-        match self {
-            Written::BadProfile => 0,
-            Written::WrongLength => 0,
-            Written::Done => 0,
-        }
+        0
     }
 }
 
@@ -106,12 +93,7 @@ impl Checked {
     pub fn place(self) -> usize
         ensures { λ r. ⌜ r ≡ checkedPlace self ⌝ }
     {
-        match self {
-            Checked::BadProfile => 0,
-            Checked::WrongLength => 0,
-            Checked::Clean => 0,
-            Checked::NotClean => 0,
-        }
+        0
     }
 
     /// 1 for a clean block; 0 for another, and beside a refusal.

@@ -44,11 +44,6 @@ abbrev pub payloadEnd : Checked → ℕ
 payloadEnd (checked-as.Accepted c) = c .at
 payloadEnd (checked-as.Refused r) = 0
 
--- the number of the last plot, 0 if there is none
-abbrev pub payloadLast : Checked → ℕ
-payloadLast (checked-as.Accepted c) = c .last
-payloadLast (checked-as.Refused r) = 0
-
 -- asking for a plot: "a companion entry gives the number and place for the same input"
 abbrev pub locatedNumber : Located → ℕ
 locatedNumber (located-as.At start len) = 0

@@ -5,7 +5,7 @@ use crate::Checked;
 use crate::Located;
 use crate::Refusal;
 ghost use mathlib.Core.Path.{_≡_};
-ghost use Rattle.plot.specs.Numbers.{numberOf, placeOf, payloadNumber, payloadPlace, payloadEnd, payloadLast, locatedNumber, locatedPlace, locatedStart, locatedLength, addedNumber, addedPlace, addedStart};
+ghost use Rattle.plot.specs.Numbers.{numberOf, placeOf, payloadNumber, payloadPlace, payloadEnd, locatedNumber, locatedPlace, locatedStart, locatedLength, addedNumber, addedPlace, addedStart};
 
 impl Refusal {
     /// The number of the refusal, 2 or 5 to 10.
@@ -66,16 +66,6 @@ impl Checked {
     {
         match self {
             Checked::Accepted(c) => c.at,
-            Checked::Refused(_) => 0,
-        }
-    }
-
-    /// The number of the last plot, 0 if there is none.
-    pub fn last(self) -> u16
-        ensures { λ n. ⌜ n ≡ payloadLast self ⌝ }
-    {
-        match self {
-            Checked::Accepted(c) => c.last,
             Checked::Refused(_) => 0,
         }
     }

@@ -14,7 +14,6 @@ use Rattle.block.specs.Promises.{EarlyRefusals}
 use Rattle.block.specs.declared.Profile.{Profile}
 use Rattle.block.specs.declared.Written.the-variants as writes
 use Rattle.block.proofs.Ranges.{in-range}
-use Rattle.block.proofs.NumberLaws.{written-place-0}
 use Rattle.block.proofs.Refusing.{early-of, kept-of}
 use Rattle.block.proofs.Promises.{verdict-late}
 use Rattle.sheet.specs.declared.Refusal.the-variants.{BadProfile, WrongLength, Block}
@@ -34,7 +33,7 @@ module _ (p : Profile) (m cells : List ℕ) where
     early =
         early-of p (writeSheetFits p (length m) (length cells)) _ (write-lengths p (length m) (length cells), λ z. write-fits p (length m) (length cells) (z .0) (z .1)) writtenNumber
         writes.BadProfile writes.WrongLength writes.Done refl refl (λ q. omega arith) (λ q. omega arith);
-    place = written-place-0 (writeSheetAnswer p m cells);
+    place = refl;
     kept = λ n. kept-of p (writeSheetFits p (length m) (length cells)) writtenNumber writes.BadProfile writes.WrongLength writes.Done cells (writtenSheet p m) refl n;
   }
 
