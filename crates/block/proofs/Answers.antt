@@ -7,13 +7,13 @@ use mathlib.Core.List.{List}
 use Prim.Native.Nat.{ℕ}
 use lib.ListN.{length}
 use Rattle.lists.specs.Choice.{pick}
-use Rattle.block.specs.Profile.{InRange, messageLength}
+use Rattle.profile.specs.Profile.{InRange, messageLength}
 use Rattle.block.specs.Block.{encode, isClean, writeAnswer, writeLeaves, checkAnswer, verdict, filled, corrected, correctAnswer, correctLeaves}
 use Rattle.block.specs.Numbers.{verdictNumber}
-use Rattle.block.specs.declared.Profile.{Profile}
+use Rattle.profile.specs.declared.Profile.{Profile}
 use Rattle.block.specs.declared.Written.the-variants as writes
 use Rattle.block.specs.declared.Checked.the-variants as checks
-use Rattle.block.proofs.Ranges.{in-range}
+use Rattle.profile.proofs.Ranges.{in-range}
 use Rattle.block.proofs.NumberLaws.{filled-alike, filled-kept}
 use Rattle.block.proofs.Entries.{check-rest, write-fits, write-done, correct-fits, correct-rest}
 

@@ -24,15 +24,15 @@ use Rattle.register.proofs.Forward.{feeds-top}
 use Rattle.register.proofs.Generator.{monic-generator}
 use Rattle.register.proofs.LastCell.{extent-pad}
 use Rattle.register.proofs.Remainder.{remainder-feeds, check-cells}
-use Rattle.block.specs.Profile.{InRange, inRange, messageLength}
+use Rattle.profile.specs.Profile.{InRange, inRange, messageLength}
 use Rattle.block.specs.Block.{checkCells, encode, isClean, verdict, filled, checkAnswer, writeFits, writeAnswer, writeLeaves, correctFits, correctAnswer, correctLeaves}
 use Rattle.block.specs.Found.{generatorOnTop}
 use Rattle.block.specs.declared.Verdict.{Verdict}
 use Rattle.block.specs.declared.Verdict.the-variants as verdicts
 use Rattle.block.specs.declared.Written.the-variants as writes
 use Rattle.block.specs.declared.Checked.the-variants as checks
-use Rattle.block.specs.declared.Profile.{Profile}
-use Rattle.block.proofs.Refusing.{refuse-one, refuse-two, accept}
+use Rattle.profile.specs.declared.Profile.{Profile}
+use Rattle.profile.proofs.Refusing.{refuse-one, refuse-two, accept}
 use Rattle.block.proofs.Encoding.{check-length}
 
 -- ---- lengths

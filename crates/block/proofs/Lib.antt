@@ -1,5 +1,3 @@
-pub mod Ranges
-pub mod Refusing
 pub mod NumberLaws
 pub mod Shortest
 pub mod Encoding

@@ -18,11 +18,11 @@ use Rattle.code.proofs.Shifted.{backSteps-length}
 use Rattle.register.specs.Words.{cells}
 use Rattle.register.specs.Register.{padTo}
 use Rattle.register.proofs.Align.{pad-is}
-use Rattle.block.specs.Profile.{InRange}
+use Rattle.profile.specs.Profile.{InRange}
 use Rattle.block.specs.Block.{isClean, decided, verdict, filled}
 use Rattle.block.specs.Found.{bestOf, Searched}
 use Rattle.block.specs.Runs.{Cells}
-use Rattle.block.specs.declared.Profile.{Profile}
+use Rattle.profile.specs.declared.Profile.{Profile}
 use Rattle.block.specs.declared.Found.{Found}
 use Rattle.block.specs.declared.Verdict.the-variants.{Uncorrectable, Ambiguous, Corrected}
 use Rattle.block.proofs.Shortest.{best, scan, clean-verdict, wrong-verdict}

@@ -14,27 +14,25 @@ use Rattle.lists.proofs.Test.{true-or-false, both-true, pick-of}
 use Rattle.code.specs.Code.{syndrome, generator, remainder}
 use Rattle.code.specs.Search.{Best, extent, extents, scanned}
 use Rattle.code.proofs.Division.{codeword-syndromes, syndromes-codeword}
-use Rattle.block.specs.Profile.{InRange, InRangeIff, messageLength}
-use Rattle.block.specs.Block.{refusing, encode, isClean, decided, judged, verdict, corrected, filled, writeFits, writeAnswer, writeLeaves, checkAnswer, correctFits, correctAnswer, correctLeaves}
+use Rattle.profile.specs.Profile.{InRange, messageLength}
+use Rattle.profile.specs.Refusals.{refusing}
+use Rattle.block.specs.Block.{encode, isClean, decided, judged, verdict, corrected, filled, writeFits, writeAnswer, writeLeaves, checkAnswer, correctFits, correctAnswer, correctLeaves}
 use Rattle.block.specs.Numbers.{verdictNumber, verdictStart, verdictLength, writtenNumber, checkedNumber, checkedClean}
 use Rattle.block.specs.Runs.{Cells, Word, OneReached}
 use Rattle.block.specs.Promises.{WritesCodeword, CleanIff, LentBlock, UncorrectableIff, AmbiguousIff, Corrects, CorrectedIff, HalfPromise, DepthFree, WriteRefusals, CheckRefusals, CorrectRefusals, BlockRefusals}
-use Rattle.block.specs.declared.Profile.{Profile}
+use Rattle.profile.specs.declared.Profile.{Profile}
 use Rattle.block.specs.declared.Verdict.{Verdict}
 use Rattle.block.specs.declared.Verdict.the-variants as verdicts
 use Rattle.block.specs.declared.Written.the-variants as writes
 use Rattle.block.specs.declared.Checked.{Checked}
 use Rattle.block.specs.declared.Checked.the-variants as checks
-use Rattle.block.proofs.Ranges.{in-range}
-use Rattle.block.proofs.Refusing.{early-of, kept-of}
+use Rattle.profile.proofs.Ranges.{in-range}
+use Rattle.profile.proofs.Refusing.{early-of, kept-of}
 use Rattle.block.proofs.NumberLaws.{number-0, number-3, number-4, no-run, not-called}
 use Rattle.block.proofs.Shortest.{clean-word, word-clean}
 use Rattle.block.proofs.Encoding.{encode-message, encode-codeword, same-message}
 use Rattle.block.proofs.Verdicts.{verdict-none, verdict-two, verdict-one, verdict-half, same-verdict, same-filled}
 use Rattle.block.proofs.Answers.{write-accepted, block-written, block-checked, block-answer, block-leaves, block-kept}
-
-pub in-range-iff : InRangeIff
-in-range-iff = in-range
 
 -- ---- the writer
 

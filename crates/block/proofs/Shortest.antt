@@ -20,10 +20,10 @@ use Rattle.code.proofs.Distance.{zero-at}
 use Rattle.code.proofs.Division.{remainder-syndrome, remainder-zero, codeword-syndromes, syndromes-codeword}
 use Rattle.code.proofs.Search.{extent-zero, extent-least, Scan, scan-all}
 use Rattle.code.proofs.Theorems.{run-reaches}
-use Rattle.block.specs.Profile.{InRange}
+use Rattle.profile.specs.Profile.{InRange}
 use Rattle.block.specs.Block.{isClean, decided, judged, verdict}
 use Rattle.block.specs.Runs.{Cells, Word, Reached, Least}
-use Rattle.block.specs.declared.Profile.{Profile}
+use Rattle.profile.specs.declared.Profile.{Profile}
 use Rattle.block.specs.declared.Verdict.the-variants.{Corrected}
 
 -- a run of no cells reaches the read cells alone

@@ -30,7 +30,7 @@ use Rattle.register.specs.Register.{padTo}
 use Rattle.register.proofs.Align.{pad-length, pad-is}
 use Rattle.register.proofs.LastCell.{extent-pad}
 use Rattle.block.specs.Found.{bestOf, improvedBy, Searching}
-use Rattle.block.specs.declared.Profile.{Profile}
+use Rattle.profile.specs.declared.Profile.{Profile}
 use Rattle.block.specs.declared.Found.{Found}
 
 -- ---- one start

@@ -14,11 +14,11 @@ use Rattle.code.specs.Run.{shiftedRemainder, addedAt}
 use Rattle.code.specs.Search.{Best}
 use Rattle.code.proofs.Poly.{padd-zeros}
 use Rattle.code.proofs.Theorems.{two-runs}
-use Rattle.block.specs.Profile.{InRange, half}
+use Rattle.profile.specs.Profile.{InRange, half}
 use Rattle.block.specs.Block.{isClean, decided, judged, verdict, filled, corrected}
 use Rattle.block.specs.Runs.{Cells, Word, Reached, NoneReached, TwoReached, OneReached}
 use Rattle.block.specs.Promises.{ExactlyOne}
-use Rattle.block.specs.declared.Profile.{Profile}
+use Rattle.profile.specs.declared.Profile.{Profile}
 use Rattle.block.specs.declared.Verdict.{Verdict}
 use Rattle.block.specs.declared.Verdict.the-variants.{BadProfile, WrongLength, Uncorrectable, Ambiguous, Corrected}
 use Rattle.block.proofs.Shortest.{empty-run, word, best, e, scan, reach-word, extent-reach, clean-word, word-clean, clean-verdict, wrong-verdict, reach-start, reach-size, small, best-reach, best-least, at-size, apart}

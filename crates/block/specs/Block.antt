@@ -9,8 +9,9 @@ use Rattle.lists.specs.Choice.{pick, both}
 use Rattle.code.specs.Code.{generator, remainder}
 use Rattle.code.specs.Run.{shiftedRemainder, addedAt}
 use Rattle.code.specs.Search.{Best, extent, extents, scanned}
-use Rattle.block.specs.Profile.{inRange, messageLength}
-use Rattle.block.specs.declared.Profile.{Profile}
+use Rattle.profile.specs.Profile.{messageLength}
+use Rattle.profile.specs.Refusals.{refusing}
+use Rattle.profile.specs.declared.Profile.{Profile}
 use Rattle.block.specs.declared.Verdict.{Verdict}
 use Rattle.block.specs.declared.Verdict.the-variants as verdicts
 use Rattle.block.specs.declared.Written.{Written}
@@ -27,10 +28,6 @@ checkCells b r m = remainder r (generator b r) (replicate r 0 ++ m)
 -- the written block: check cells in 0 to r − 1, the message in r to n − 1
 unfoldable pub encode : ℕ → ℕ → List ℕ → List ℕ
 encode b r m = checkCells b r m ++ m
-
--- refusals 1 and 2 of an entry with two buffers, or what else it answers
-unfoldable pub refusing : {A : Type 0} → Profile → Bool → A → A → A → A
-refusing p fits one two rest = pick (inRange p) (pick fits rest two) one
 
 -- the writer's buffers have k and n bytes
 unfoldable pub writeFits : Profile → List ℕ → List ℕ → Bool

@@ -11,7 +11,7 @@ use Rattle.code.specs.Search.{Best, extent, extents, scanned}
 use Rattle.register.specs.Words.{cells}
 use Rattle.register.specs.Register.{padTo, onTop}
 use Rattle.register.specs.declared.Register.{Register}
-use Rattle.block.specs.declared.Profile.{Profile}
+use Rattle.profile.specs.declared.Profile.{Profile}
 use Rattle.block.specs.declared.Found.{Found}
 
 -- the low r cells of the generator as the highest of 64

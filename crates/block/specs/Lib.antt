@@ -1,4 +1,3 @@
-pub mod Profile
 pub mod Block
 pub mod Numbers
 pub mod Runs

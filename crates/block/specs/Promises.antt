@@ -8,11 +8,12 @@ use Prim.Native.Nat.{ℕ, _≤_, _<_}
 use lib.ListN.{length, drop}
 use Rattle.lists.specs.Bytes.{Bytes}
 use Rattle.code.specs.Code.{syndrome}
-use Rattle.block.specs.Profile.{InRange, messageLength, half}
+use Rattle.profile.specs.Profile.{InRange, messageLength, half}
+use Rattle.profile.specs.Refusals.{EarlyRefusals}
 use Rattle.block.specs.Block.{writeAnswer, writeLeaves, checkAnswer, correctAnswer, correctLeaves}
 use Rattle.block.specs.Numbers.{verdictNumber, verdictPlace, verdictStart, verdictLength, writtenNumber, writtenPlace, checkedNumber, checkedPlace, checkedClean}
 use Rattle.block.specs.Runs.{Cells, Word, Reached, NoneReached, TwoReached, OneReached, OneOfThree}
-use Rattle.block.specs.declared.Profile.{Profile}
+use Rattle.profile.specs.declared.Profile.{Profile}
 
 -- ---- 1. B4: the writer
 
@@ -82,12 +83,6 @@ DepthFree = (p q : Profile) (y out : List ℕ) → InRange p → InRange q → p
     → (correctAnswer p y out ≡ correctAnswer q y out) × (correctLeaves p y out ≡ correctLeaves q y out)
 
 -- ---- 9. E3, E4: every refusal
-
--- refusals 1 and 2 of an entry on a block or a sheet that answers `number`: 1 exactly where a profile number is out of range, and 2 exactly where
--- none is and a lent buffer has not its length; so 1 goes before 2, and 2 before the rest
-pub record EarlyRefusals (p : Profile) (Fits : Type 0) (number : ℕ) : Type 0 where
-  pub one : (number ≡ 1) ↔ (InRange p → ⊥)
-  pub two : (number ≡ 2) ↔ (InRange p × (Fits → ⊥))
 
 -- after a refusal the place is 0, "Every lent buffer is unchanged", and the other numbers are 0
 pub record WriteRefusals (p : Profile) (m out : List ℕ) : Type 0 where

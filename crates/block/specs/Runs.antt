@@ -9,7 +9,7 @@ use lib.ListN.{length}
 use Rattle.lists.specs.Bytes.{Bytes}
 use Rattle.code.specs.Code.{Codeword}
 use Rattle.code.specs.Run.{Reaches}
-use Rattle.block.specs.declared.Profile.{Profile}
+use Rattle.profile.specs.declared.Profile.{Profile}
 
 module _ (p : Profile) where
   -- n cells, one byte each

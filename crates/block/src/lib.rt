@@ -1,4 +1,4 @@
-// The block of document 01: its profile, and writing, checking and correcting one block. A block's check cells, its remainder and the
+// The block of document 01: writing, checking and correcting one block. A block's check cells, its remainder and the
 // shifted remainders of the search come from the shift register of the crate `register`; each entry refuses with 1, then 2, and its
 // contract gives the answer and every lent byte by a definition of specs/Block.antt.
 ghost use mathlib.Core.Path.{_≡_};
@@ -9,23 +9,14 @@ ghost use Rattle.code.specs.Code.{generator, remainder};
 ghost use Rattle.code.specs.Run.{ZeroFrom};
 ghost use Rattle.register.specs.Words.{cells};
 ghost use Rattle.register.specs.Register.{padTo};
-ghost use Rattle.block.specs.Profile.{InRange, inRange, messageLength, half};
+ghost use Rattle.profile.specs.Profile.{InRange, messageLength};
 ghost use Rattle.block.specs.Block.{checkCells, isClean, verdict, filled, writeAnswer, writeLeaves, checkAnswer, correctAnswer, correctLeaves};
 ghost use Rattle.block.specs.Found.{generatorOnTop, improvedBy, Searched};
+use profile::Profile;
 use register::Register;
 
 mod fill;
 mod numbers;
-
-/// The five numbers of a profile: cells in a block (n), check cells (r), starting power (b), the longest run that may be
-/// corrected (L, `limit`), and blocks in a sheet (D, `depth`).
-pub struct Profile {
-    pub n: usize,
-    pub r: usize,
-    pub b: usize,
-    pub limit: usize,
-    pub depth: usize,
-}
 
 /// What correcting a block answers. Document 01 calls the cases misprint, wrong frame, torn, tied, and mended (or clean); `length` cells
 /// from `start` on are "the result s and f".
@@ -51,64 +42,6 @@ pub enum Checked {
     WrongLength,
     Clean,
     NotClean,
-}
-
-impl Profile {
-    /// Message bytes in a block, k = n − r; 0 where that is below zero.
-    pub fn message_length(self) -> usize
-        ensures { λ r. ⌜ r ≡ messageLength self ⌝ }
-    {
-        let n = self.n;
-        let r = self.r;
-        if n < r {
-            return 0;
-        }
-        n - r
-    }
-
-    /// h, half of r rounded down.
-    pub fn half(self) -> usize
-        ensures { λ r. ⌜ r ≡ half self ⌝ }
-    {
-        self.r / 2
-    }
-
-    /// Whether all five numbers are in range.
-    pub fn in_range(self) -> bool
-        ensures { λ r. ⌜ r ≡ inRange self ⌝ }
-    {
-        let n = self.n;
-        let r = self.r;
-        let depth = self.depth;
-        if n < 3 {
-            return false;
-        }
-        if 255 < n {
-            return false;
-        }
-        if r < 2 {
-            return false;
-        }
-        if 64 < r {
-            return false;
-        }
-        if n <= r {
-            return false;
-        }
-        if 254 < self.b {
-            return false;
-        }
-        if r <= self.limit {
-            return false;
-        }
-        if depth < 1 {
-            return false;
-        }
-        if 16 < depth {
-            return false;
-        }
-        true
-    }
 }
 
 // ---- writing

@@ -3,8 +3,8 @@
 use Prim.Native.Nat.{ℕ}
 use lib.Dec.{eqb}
 use Rattle.lists.specs.Choice.{pick}
-use Rattle.block.specs.Profile.{inRange}
-use Rattle.block.specs.declared.Profile.{Profile}
+use Rattle.profile.specs.Profile.{inRange}
+use Rattle.profile.specs.declared.Profile.{Profile}
 
 -- "A profile is five numbers"
 abbrev pub profileOf : ℕ → ℕ → ℕ → ℕ → ℕ → Profile

@@ -2,7 +2,7 @@
 // accepted, or the length of a text, and hands every other number out through a reference. Each calls one entry of the crates below, and its
 // contract is that entry's answer, as the numbers that its own crate defines; specs/Numbers.antt has what C alone needs.
 ghost use mathlib.Core.Path.{_≡_};
-ghost use Rattle.block.specs.Profile.{messageLength, half};
+ghost use Rattle.profile.specs.Profile.{messageLength, half};
 ghost use Rattle.block.specs.Block.{writeAnswer, writeLeaves, checkAnswer, correctAnswer, correctLeaves};
 ghost use Rattle.block.specs.Numbers.{verdictNumber, verdictStart, verdictLength, writtenNumber, checkedNumber, checkedClean};
 ghost use Rattle.sheet.specs.Sheet.{writeSheetAnswer, writeSheetLeaves, readAnswer, readScratch, readPayload};
@@ -14,7 +14,7 @@ ghost use Rattle.listing_text.specs.Text.{listingText, refusalText};
 ghost use Rattle.listing_text.specs.Buffer.{textIn, textLength};
 ghost use Rattle.listing.specs.Listing.{listed};
 ghost use Rattle.capi.specs.Numbers.{profileOf, profileNumber, valueOrPlace};
-use block::Profile;
+use profile::Profile;
 
 fn profile_of(n: usize, r: usize, b: usize, limit: usize, depth: usize) -> Profile
     ensures { λ z. ⌜ z ≡ profileOf n r b limit depth ⌝ }

@@ -1,9 +1,9 @@
 -- All demands together, and what stands beside them, each from the theorem of its own crate.
-use mathlib.Core.Path.{sym}
 use Rattle.field.proofs.Laws.{field-laws, alpha-laws}
 use Rattle.code.proofs.Theorems.{codeword-iff-syndromes, minimum-distance, long-run-reaches}
+use Rattle.profile.proofs.Ranges.{in-range}
 use Rattle.block.proofs.Verdicts.{exactly-one}
-use Rattle.block.proofs.Promises.{in-range-iff, writes-codeword, clean-iff, uncorrectable-iff, ambiguous-iff, corrected-iff, depth-free, half-promise, block-refusals}
+use Rattle.block.proofs.Promises.{writes-codeword, clean-iff, uncorrectable-iff, ambiguous-iff, corrected-iff, depth-free, half-promise, block-refusals}
 use Rattle.sheet.proofs.Apart.{places, taken-apart}
 use Rattle.sheet.proofs.Verdicts.{differ-iff}
 use Rattle.sheet.proofs.Theorems.{writes-sheet, read-results}
@@ -13,7 +13,7 @@ use Rattle.demands.proofs.Examples.{starred-examples}
 use Rattle.plot.proofs.Canonical.{written-as-read, read-as-written, accepted-form, asked-is-record, asked-refused, added-is-found, refused-unchanged, full-exactly}
 use Rattle.plot.proofs.TooLong.{too-long}
 use Rattle.plot.proofs.Sheets.{written-reads-as-plots, same-after-damage}
-use Rattle.listing.proofs.Cases.{listed-short}
+use Rattle.listing.proofs.Refusals.{list-refusals}
 use Rattle.listing.proofs.Theorems.{whole-text}
 use Rattle.demands.specs.Demands.{Demands, Beside, AllPromises}
 
@@ -25,7 +25,7 @@ demands = record {
     payloads = too-long;
     asking = asked-refused;
     adding = refused-unchanged;
-    listing = λ input l. sym (listed-short input l);
+    listing = list-refusals;
   };
   second = record {
     writing = writes-codeword;
@@ -57,7 +57,7 @@ beside = record {
   codewords = codeword-iff-syndromes;
   distance = minimum-distance;
   long-runs = long-run-reaches;
-  ranges = in-range-iff;
+  ranges = in-range;
   depth-free = depth-free;
   half-run = half-promise;
   differing = differ-iff;

@@ -11,13 +11,13 @@ use Rattle.code.specs.Poly.{padd, pscale, pmul}
 use Rattle.code.specs.Code.{generator, remStep, remainder, Codeword}
 use Rattle.code.specs.Run.{Outside, backStep, backSteps, shiftedRemainder, addedAt}
 use Rattle.code.specs.Search.{extent, better, scanned, extents}
-use Rattle.block.specs.Profile.{inRange, messageLength}
+use Rattle.profile.specs.Profile.{inRange, messageLength}
 use Rattle.block.specs.Block.{checkCells, encode, decided, judged, verdict, filled, corrected, writeAnswer, writeLeaves, correctAnswer}
 use Rattle.block.specs.Numbers.{verdictNumber, verdictStart, verdictLength, writtenNumber}
 use Rattle.block.specs.Promises.{Corrects}
-use Rattle.block.specs.declared.Profile.{Profile}
+use Rattle.profile.specs.declared.Profile.{Profile}
 use Rattle.block.specs.declared.Verdict.the-variants.{Corrected}
-use Rattle.block.proofs.Ranges.{in-range}
+use Rattle.profile.proofs.Ranges.{in-range}
 use Rattle.block.proofs.Answers.{write-accepted, block-written, block-answer, block-leaves}
 use Rattle.sheet.specs.Sheet.{interleave, messageOf, writtenBlock, writtenSheet, writeSheetAnswer, writeSheetLeaves}
 use Rattle.demands.specs.Examples.{small, wide, StarredExamples}

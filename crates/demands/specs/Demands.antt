@@ -2,13 +2,13 @@
 -- what document 01 asks beside the three demands. A statement is defined in the crate that its `use` line names; proofs/Demands.antt proves them all.
 use mathlib.Core.Path.{_≡_}
 use mathlib.Core.List.{List}
-use Prim.Native.Nat.{ℕ, _*_, _≤_, _<_}
+use Prim.Native.Nat.{ℕ, _*_, _≤_}
 use lib.ListN.{length}
 use Rattle.field.specs.Laws.{FieldLaws, AlphaLaws}
 use Rattle.code.specs.Theorems.{CodewordIffSyndromes, MinimumDistance, LongRunReaches}
-use Rattle.block.specs.Profile.{InRange, InRangeIff, half}
+use Rattle.profile.specs.Profile.{InRange, InRangeIff, half}
 use Rattle.block.specs.Promises.{WritesCodeword, CleanIff, UncorrectableIff, AmbiguousIff, CorrectedIff, ExactlyOne, HalfPromise, DepthFree, BlockRefusals}
-use Rattle.block.specs.declared.Profile.{Profile}
+use Rattle.profile.specs.declared.Profile.{Profile}
 use Rattle.sheet.specs.Sheet.{writeSheetLeaves, readAnswer, readPayload}
 use Rattle.sheet.specs.Numbers.{readingNumber}
 use Rattle.sheet.specs.Buffers.{Payload, Lent}
@@ -18,8 +18,7 @@ use Rattle.demands.specs.Examples.{StarredExamples}
 use Rattle.plot.specs.Canonical.{WrittenAsRead, ReadAsWritten, AcceptedForm, AskedIsRecord, AskedRefused, AddedIsFound, RefusedUnchanged, FullExactly}
 use Rattle.plot.specs.Refusals.{TooLong}
 use Rattle.plot.specs.Sheets.{WrittenReadsAsPlots, SameAfterDamage}
-use Rattle.listing_text.specs.Text.{refusalText}
-use Rattle.listing.specs.Listing.{listed}
+use Rattle.listing.specs.Refusals.{ListRefusals}
 use Rattle.listing.specs.Theorems.{WholeText}
 
 -- 1. "So that any scan and any tally file can be fed in, every entry point ends with a result on every input, .."
@@ -32,7 +31,7 @@ pub record Demand1 : Type 0 where
   pub payloads : (s : List ℕ) → TooLong s
   pub asking : AskedRefused
   pub adding : RefusedUnchanged
-  pub listing : (input : List ℕ) → length input < 5 → listed input ≡ refusalText 1 0
+  pub listing : (input : List ℕ) → ListRefusals input
 
 -- 2.
 pub record Demand2 : Type 0 where

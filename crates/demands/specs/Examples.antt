@@ -8,7 +8,7 @@ use Rattle.block.specs.Block.{writeAnswer, writeLeaves, correctAnswer}
 use Rattle.block.specs.Numbers.{verdictNumber, writtenNumber}
 use Rattle.block.specs.Runs.{Reached}
 use Rattle.block.specs.Promises.{Corrects}
-use Rattle.block.specs.declared.Profile.{Profile}
+use Rattle.profile.specs.declared.Profile.{Profile}
 use Rattle.sheet.specs.Sheet.{writeSheetAnswer, writeSheetLeaves}
 
 pub data Example : Type 0 where

@@ -8,11 +8,12 @@ use native.Mathlib.Omega.{arith}
 use lib.ListN.{length, getD, take, drop, replicate, length-drop, length-replicate}
 use lib.Seq.{take-all, length-take-le}
 use borrow.Author.Tests.{lt-ltb, le-ltb}
-use Rattle.block.specs.Profile.{InRange, inRange, messageLength}
-use Rattle.block.specs.declared.Profile.{Profile}
+use Rattle.profile.specs.Profile.{InRange, inRange, messageLength}
+use Rattle.profile.specs.declared.Profile.{Profile}
 use Rattle.block.proofs.NumberLaws.{number-most}
 use Rattle.sheet.specs.Sheet.{readAnswer, readPayload}
 use Rattle.sheet.specs.Numbers.{refusalNumber, refusalPlace}
+use Rattle.sheet.specs.Buffers.{Sheet, Lent}
 use Rattle.sheet.specs.declared.Reading.{Reading}
 use Rattle.sheet.specs.declared.Reading.the-variants.{Refused, Accepted}
 use Rattle.sheet.specs.declared.Refusal.{Refusal}
@@ -21,10 +22,10 @@ use Rattle.sheet.proofs.Entry.{read-bad}
 use Rattle.plot.specs.Grammar.{reading}
 use Rattle.listing_text.specs.Text.{refusalText, listingText}
 use Rattle.listing_text.specs.Buffer.{textIn, textLength}
-use Rattle.listing.specs.Listing.{profileOf, sheetAnswerText, scratchBuffer, payloadBuffer, sheetText, listed}
+use Rattle.listing.specs.Listing.{inputProfile, sheetAnswerText, scratchBuffer, payloadBuffer, sheetText, listed}
 
 pub profile-is : (input : List ℕ) (n r b limit depth : ℕ) → n ≡ getD input 0 0 → r ≡ getD input 1 0 → b ≡ getD input 2 0 → limit ≡ getD input 3 0 → depth ≡ getD input 4 0
-    → _≡_ {A = Profile} (record { n = n; r = r; b = b; limit = limit; depth = depth }) (profileOf input)
+    → _≡_ {A = Profile} (record { n = n; r = r; b = b; limit = limit; depth = depth }) (inputProfile input)
 profile-is input n r b limit depth en er eb el ed = rw (en, er, eb, el, ed)
 
 pub number-small : (r : Refusal) → refusalNumber r < 256
@@ -45,20 +46,20 @@ module _ (p : Profile) (sheet scratch payload : List ℕ) (es : scratch ≡ scra
   text-accepted changed back e b =
       ap₂ sheetAnswerText (e ∙ ap₂ (λ (s q : List ℕ). readAnswer p sheet s q) es ep) (b ∙ ap₂ (λ (s q : List ℕ). readPayload p sheet s q) es ep)
 
-pub listed-bad : (input : List ℕ) → 5 ≤ length input → inRange (profileOf input) ≡ false → refusalText 1 0 ≡ listed input
+pub listed-bad : (input : List ℕ) → 5 ≤ length input → inRange (inputProfile input) ≡ false → refusalText 1 0 ≡ listed input
 unfolding listed
 listed-bad input l e =
     rw (le-ltb (length input) 5 l)
-    (text-refused (profileOf input) (drop 5 input) (scratchBuffer (profileOf input)) (payloadBuffer (profileOf input)) refl refl BadProfile (read-bad (profileOf input) (drop 5 input) _ _ e .0))
+    (text-refused (inputProfile input) (drop 5 input) (scratchBuffer (inputProfile input)) (payloadBuffer (inputProfile input)) refl refl BadProfile (read-bad (inputProfile input) (drop 5 input) _ _ e .0))
 
 pub listed-short : (input : List ℕ) → length input < 5 → refusalText 1 0 ≡ listed input
 unfolding listed
 listed-short input l = rw (lt-ltb (length input) 5 l)
 
-pub listed-sheet : (input : List ℕ) → 5 ≤ length input → sheetText (profileOf input) (take (length input - 5) (drop 5 input)) ≡ listed input
+pub listed-sheet : (input : List ℕ) → 5 ≤ length input → sheetText (inputProfile input) (take (length input - 5) (drop 5 input)) ≡ listed input
 unfolding listed
 listed-sheet input l =
-    rw (le-ltb (length input) 5 l) (ap (sheetText (profileOf input)) (take-all (length input - 5) (drop 5 input) (omega (arith, length-drop 5 input))))
+    rw (le-ltb (length input) 5 l) (ap (sheetText (inputProfile input)) (take-all (length input - 5) (drop 5 input) (omega (arith, length-drop 5 input))))
 
 -- an answer written with a text that is equal to the one asked for
 pub same-text : {t u : List ℕ} (out : List ℕ) (r : ℕ) (left : List ℕ) → t ≡ u → (r ≡ textLength t out) × (left ≡ textIn t out) → (r ≡ textLength u out) × (left ≡ textIn u out)
@@ -79,6 +80,10 @@ module _ (n m : ℕ) (l : List ℕ) (e : l ≡ replicate n 0) (h : m ≤ n) wher
 
   pub part-zeros : take m l ≡ replicate m 0
   part-zeros = ap (take m) e ∙ take-zeros n m h
+
+-- a sheet with them is what the reader is lent
+pub own-buffers : (p : Profile) (sheet : List ℕ) → Sheet p sheet → Lent p sheet (scratchBuffer p) (payloadBuffer p)
+own-buffers p sheet h = record { cells = h; scratch-count = length-replicate (p .depth * p .n) 0; out-count = length-replicate (p .depth * messageLength p) 0 }
 
 -- 16 blocks of 255 cells, of 253 message bytes
 module _ (p : Profile) (v : InRange p) where

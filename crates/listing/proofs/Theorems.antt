@@ -11,9 +11,9 @@ use borrow.Author.Tests.{eqb-true, eqb-false}
 use Rattle.lists.proofs.Test.{zero-or, true-or-false, true-false, pick-of}
 use Rattle.lists.specs.Bytes.{Bytes}
 use Rattle.lists.proofs.Bytes.{bytes-of, drop-bytes}
-use Rattle.block.specs.Profile.{InRange, inRange, messageLength}
-use Rattle.block.specs.declared.Profile.{Profile}
-use Rattle.block.proofs.Ranges.{in-range}
+use Rattle.profile.specs.Profile.{InRange, inRange, messageLength}
+use Rattle.profile.specs.declared.Profile.{Profile}
+use Rattle.profile.proofs.Ranges.{in-range}
 use Rattle.sheet.specs.Sheet.{readAnswer, readPayload}
 use Rattle.sheet.specs.Numbers.{refusalNumber, refusalPlace, readingNumber, readingPlace}
 use Rattle.sheet.specs.Buffers.{Lent}
@@ -27,9 +27,9 @@ use Rattle.sheet.proofs.Accepted.{payload-back, changed-most}
 use Rattle.listing_text.specs.Buffer.{textIn, textLength}
 use Rattle.listing_text.proofs.Fill.{fill-whole}
 use Rattle.listing_text.proofs.Lengths.{refusal-length, listing-length}
-use Rattle.listing.specs.Listing.{profileOf, scratchBuffer, payloadBuffer, sheetText, listed}
+use Rattle.listing.specs.Listing.{inputProfile, scratchBuffer, payloadBuffer, sheetText, listed}
 use Rattle.listing.specs.Theorems.{longestText, TextFits, WholeText}
-use Rattle.listing.proofs.Cases.{number-small, text-refused, text-accepted}
+use Rattle.listing.proofs.Cases.{number-small, text-refused, text-accepted, own-buffers}
 
 module _ (p : Profile) (sheet : List ℕ) where
   -- the reader's answer on the lister's own buffers
@@ -74,12 +74,9 @@ module _ (p : Profile) (sheet : List ℕ) where
   sheet-fits b =
       ⊎-elim (λ t. by-length (in-range p .0 t)) (λ f. early-fits answer refl (inl (refusals .early .one .1 (λ v. true-false (in-range p .1 v) f)))) (true-or-false (inRange p))
     where
-      lent : length sheet ≡ p .depth * p .n → Lent p sheet (scratchBuffer p) (payloadBuffer p)
-      lent e = record { cells = record { count = e; bytes = b }; scratch-count = length-replicate (p .depth * p .n) 0; out-count = length-replicate (p .depth * messageLength p) 0 }
-
       by-length : InRange p → length (sheetText p sheet) ≤ longestText
       by-length v =
-          ⊎-elim (λ t. answer-fits v (lent (eqb-true _ _ t)) answer refl)
+          ⊎-elim (λ t. answer-fits v (own-buffers p sheet (record { count = eqb-true _ _ t; bytes = b })) answer refl)
           (λ f. early-fits answer refl (inr (refusals .early .two .1 (v, λ e. eqb-false _ _ f (e .0)))))
           (true-or-false (eqb (length sheet) (p .depth * p .n)))
 
@@ -87,7 +84,7 @@ pub text-fits : TextFits
 unfolding listed
 text-fits input b =
     pick-of (λ (t : List ℕ). length t ≤ longestText) (ltb (length input) 5) _ _ (refusal-length 1 0 (omega arith) (omega arith))
-    (sheet-fits (profileOf input) (drop 5 input) (drop-bytes 5 input b))
+    (sheet-fits (inputProfile input) (drop 5 input) (drop-bytes 5 input b))
 
 pub whole-text : WholeText
 whole-text input out b h = fill-whole (listed input) out (omega (arith, text-fits input b))

@@ -5,8 +5,8 @@ use Prim.Native.Nat.{ℕ, _*_}
 use lib.Dec.{ltb}
 use lib.ListN.{length, getD, drop, replicate}
 use Rattle.lists.specs.Choice.{pick}
-use Rattle.block.specs.Profile.{messageLength}
-use Rattle.block.specs.declared.Profile.{Profile}
+use Rattle.profile.specs.Profile.{messageLength}
+use Rattle.profile.specs.declared.Profile.{Profile}
 use Rattle.sheet.specs.Sheet.{readAnswer, readPayload}
 use Rattle.sheet.specs.Numbers.{refusalNumber, refusalPlace}
 use Rattle.sheet.specs.declared.Reading.{Reading}
@@ -15,8 +15,8 @@ use Rattle.plot.specs.Grammar.{reading}
 use Rattle.listing_text.specs.Text.{refusalText, listingText}
 
 -- L1: "the bytes n, r, b, L, D"
-abbrev pub profileOf : List ℕ → Profile
-profileOf input = record { n = getD input 0 0; r = getD input 1 0; b = getD input 2 0; limit = getD input 3 0; depth = getD input 4 0 }
+abbrev pub inputProfile : List ℕ → Profile
+inputProfile input = record { n = getD input 0 0; r = getD input 1 0; b = getD input 2 0; limit = getD input 3 0; depth = getD input 4 0 }
 
 -- L2: the text for a sheet that was read, with the payload that came back
 unfoldable pub sheetAnswerText : Reading → List ℕ → List ℕ
@@ -35,4 +35,4 @@ sheetText p sheet = sheetAnswerText (readAnswer p sheet (scratchBuffer p) (paylo
 
 -- L1: the whole answer
 unfoldable pub listed : List ℕ → List ℕ
-listed input = pick (ltb (length input) 5) (refusalText 1 0) (sheetText (profileOf input) (drop 5 input))
+listed input = pick (ltb (length input) 5) (refusalText 1 0) (sheetText (inputProfile input) (drop 5 input))

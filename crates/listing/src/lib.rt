@@ -3,11 +3,11 @@
 ghost use mathlib.Core.Path.{_≡_};
 ghost use Prim.Native.Nat.{_≤_};
 ghost use lib.ListN.{length, replicate};
-ghost use Rattle.block.specs.Profile.{InRange};
+ghost use Rattle.profile.specs.Profile.{InRange};
 ghost use Rattle.listing_text.specs.Buffer.{textIn, textLength};
 ghost use Rattle.sheet.specs.Numbers.{refusalNumber};
-ghost use Rattle.listing.specs.Listing.{profileOf, scratchBuffer, payloadBuffer, sheetText, listed};
-use block::Profile;
+ghost use Rattle.listing.specs.Listing.{inputProfile, scratchBuffer, payloadBuffer, sheetText, listed};
+use profile::Profile;
 use sheet::Reading;
 use sheet::Refusal;
 
@@ -19,7 +19,7 @@ fn wide(x: u8) -> usize
 
 fn profile_of(input: &[u8]) -> Profile
     requires { ⌜ 5 ≤ length (now input) ⌝ }
-    ensures { λ p. ⌜ p ≡ profileOf (now (input .entry)) ⌝ }
+    ensures { λ p. ⌜ p ≡ inputProfile (now (input .entry)) ⌝ }
 {
     Profile {
         n: wide(input[0]),

@@ -7,8 +7,8 @@ use lib.ListN.{drop}
 use Rattle.lists.specs.Choice.{pick}
 use Rattle.lists.proofs.Test.{pick-of}
 use Rattle.lists.proofs.Bytes.{drop-bytes}
-use Rattle.block.specs.Profile.{InRange, messageLength}
-use Rattle.block.specs.declared.Profile.{Profile}
+use Rattle.profile.specs.Profile.{InRange, messageLength}
+use Rattle.profile.specs.declared.Profile.{Profile}
 use Rattle.sheet.specs.declared.Reading.the-variants.{Accepted}
 use Rattle.sheet.specs.Sheet.{readBlock, differ, readAnswer, readPayload}
 use Rattle.sheet.specs.Numbers.{readingNumber, readingChanged}

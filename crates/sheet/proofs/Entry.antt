@@ -11,11 +11,11 @@ use lib.ListN.{length, replicate}
 use borrow.Author.Tests.{eq-eqb, ne-eqb, eqb-true}
 use Rattle.lists.specs.Choice.{pick, both}
 use Rattle.lists.proofs.Test.{both-true}
-use Rattle.block.specs.Profile.{InRange, inRange, messageLength}
-use Rattle.block.specs.declared.Profile.{Profile}
+use Rattle.profile.specs.Profile.{InRange, inRange, messageLength}
+use Rattle.profile.specs.declared.Profile.{Profile}
 use Rattle.block.specs.declared.Written.the-variants as writes
-use Rattle.block.proofs.Ranges.{in-range}
-use Rattle.block.proofs.Refusing.{refuse-one, refuse-two, accept}
+use Rattle.profile.proofs.Ranges.{in-range}
+use Rattle.profile.proofs.Refusing.{refuse-one, refuse-two, accept}
 use Rattle.sheet.specs.declared.Refusal.the-variants.{BadProfile, WrongLength}
 use Rattle.sheet.specs.declared.Reading.{Reading}
 use Rattle.sheet.specs.declared.Reading.the-variants.{Refused}

@@ -8,9 +8,9 @@ use native.Mathlib.Omega.{arith}
 use lib.ListN.{getD, drop}
 use Rattle.lists.specs.Choice.{pick}
 use Rattle.code.specs.Run.{Outside}
-use Rattle.block.specs.Profile.{InRange, messageLength, half}
+use Rattle.profile.specs.Profile.{InRange, messageLength, half}
 use Rattle.block.specs.Runs.{Cells, Word, Reached, OneReached}
-use Rattle.block.specs.declared.Profile.{Profile}
+use Rattle.profile.specs.declared.Profile.{Profile}
 use Rattle.block.proofs.Shortest.{empty-run}
 use Rattle.block.proofs.Verdicts.{exactly-one, verdict-one, verdict-half}
 use Rattle.sheet.specs.Sheet.{messageOf, writtenBlock, writtenSheet, writeSheetLeaves, readBlock, differ}

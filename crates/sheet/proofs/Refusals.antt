@@ -8,13 +8,13 @@ use native.Mathlib.Omega.{arith}
 use lib.ListN.{length, replicate}
 use Rattle.lists.specs.Choice.{pick}
 use Rattle.lists.proofs.Test.{pick-of, true-or-false, true-false}
-use Rattle.block.specs.Profile.{inRange, messageLength}
+use Rattle.profile.specs.Profile.{inRange, messageLength}
 use Rattle.block.specs.Numbers.{writtenNumber}
-use Rattle.block.specs.Promises.{EarlyRefusals}
-use Rattle.block.specs.declared.Profile.{Profile}
+use Rattle.profile.specs.Refusals.{EarlyRefusals}
+use Rattle.profile.specs.declared.Profile.{Profile}
 use Rattle.block.specs.declared.Written.the-variants as writes
-use Rattle.block.proofs.Ranges.{in-range}
-use Rattle.block.proofs.Refusing.{early-of, kept-of}
+use Rattle.profile.proofs.Ranges.{in-range}
+use Rattle.profile.proofs.Refusing.{early-of, kept-of}
 use Rattle.block.proofs.Promises.{verdict-late}
 use Rattle.sheet.specs.declared.Refusal.the-variants.{BadProfile, WrongLength, Block}
 use Rattle.sheet.specs.declared.Reading.{Reading}

@@ -15,10 +15,10 @@ use borrow.Author.Tests.{eq-eqb, ne-eqb, eqb-true}
 use Rattle.lists.proofs.Fill.{fill-all}
 use Rattle.lists.proofs.Test.{true-or-false, true-false}
 use Rattle.lists.specs.Bytes.{Bytes}
-use Rattle.block.specs.Profile.{InRange, messageLength}
+use Rattle.profile.specs.Profile.{InRange, messageLength}
 use Rattle.block.specs.Block.{encode, verdict, corrected, correctAnswer, correctLeaves}
 use Rattle.block.specs.Numbers.{verdictNumber, verdictStart, verdictLength}
-use Rattle.block.specs.declared.Profile.{Profile}
+use Rattle.profile.specs.declared.Profile.{Profile}
 use Rattle.block.specs.declared.Verdict.{Verdict}
 use Rattle.block.proofs.NumberLaws.{number-0}
 use Rattle.block.proofs.Answers.{block-answer, block-leaves}

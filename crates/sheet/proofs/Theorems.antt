@@ -10,10 +10,10 @@ use lib.ListN.{length, getD, drop, replicate}
 use lib.Seq.{getD-drop}
 use Rattle.lists.specs.Choice.{pick}
 use Rattle.lists.specs.Bytes.{Bytes}
-use Rattle.block.specs.Profile.{InRange, messageLength}
+use Rattle.profile.specs.Profile.{InRange, messageLength}
 use Rattle.block.specs.Numbers.{verdictNumber, writtenNumber}
 use Rattle.block.specs.Runs.{Cells, Word}
-use Rattle.block.specs.declared.Profile.{Profile}
+use Rattle.profile.specs.declared.Profile.{Profile}
 use Rattle.block.proofs.Encoding.{encode-codeword, encode-message}
 use Rattle.sheet.specs.declared.Refusal.the-variants.{Block}
 use Rattle.sheet.specs.declared.Reading.{Reading}
@@ -156,16 +156,22 @@ module _ (p : Profile) (sheet scratch out : List ℕ) (v : InRange p) (h : Lent 
       let q = lowest-answer p sheet v (h .cells .bytes) d number o in
       (ap readingNumber (rest .0) ∙ q .0, ap readingPlace (rest .0) ∙ q .1)
 
-  pub all-words : (words : ℕ → List ℕ) → AllWords p sheet words → Accepts p sheet scratch out words
-  all-words words a =
+  -- the answer itself, and what it says by numbers
+  pub read-accepts : (words : ℕ → List ℕ) → AllWords p sheet words → (answer ≡ Accepted (differing (p .depth) words (readBlock p sheet))) × Accepts p sheet scratch out words
+  read-accepts words a =
       let q = words-answer p sheet v (h .cells .bytes) words a in
-      let e : answer ≡ Accepted (differing (p .depth) words (readBlock p sheet)) = rest .0 ∙ q in
-      record {
-        number = ap readingNumber e;
-        place = ap readingPlace e;
-        changed = ap readingChanged e;
-        payload = rest .2 ∙ rw q (words-payload p sheet v (h .cells .bytes) words a);
-      }
+      let e : answer ≡ Accepted (differing (p .depth) words (readBlock p sheet)) = rest .0 ∙ q in (
+        e,
+        record {
+          number = ap readingNumber e;
+          place = ap readingPlace e;
+          changed = ap readingChanged e;
+          payload = rest .2 ∙ rw q (words-payload p sheet v (h .cells .bytes) words a);
+        },
+      )
+
+  pub all-words : (words : ℕ → List ℕ) → AllWords p sheet words → Accepts p sheet scratch out words
+  all-words words a = read-accepts words a .1
 
   refusal-lowest : (d number : ℕ) → number ≢ 0 → (readingNumber answer ≡ number) × (readingPlace answer ≡ d) → LowestRefused p sheet d number
   refusal-lowest d number n q =

@@ -9,11 +9,11 @@ use lib.Dec.{eqb}
 use borrow.Author.Tests.{eq-eqb, ne-eqb, eqb-true}
 use Rattle.lists.specs.Choice.{pick}
 use Rattle.lists.proofs.Test.{zero-or, true-or-false, true-false}
-use Rattle.block.specs.Profile.{InRange}
+use Rattle.profile.specs.Profile.{InRange}
 use Rattle.block.specs.Block.{verdict, corrected}
 use Rattle.block.specs.Numbers.{verdictNumber}
 use Rattle.block.specs.Runs.{Cells, Reached, NoneReached, TwoReached, OneReached}
-use Rattle.block.specs.declared.Profile.{Profile}
+use Rattle.profile.specs.declared.Profile.{Profile}
 use Rattle.block.specs.declared.Verdict.the-variants.{Corrected}
 use Rattle.block.proofs.Shortest.{empty-run}
 use Rattle.block.proofs.Verdicts.{exactly-one, verdict-none, verdict-two, verdict-one}

@@ -5,8 +5,8 @@ use Prim.Native.Nat.{ℕ, zero, suc, _+_, _*_}
 use lib.ListN.{length}
 use Rattle.lists.specs.Choice.{pick}
 use Rattle.lists.specs.Bytes.{Bytes}
-use Rattle.block.specs.Profile.{messageLength}
-use Rattle.block.specs.declared.Profile.{Profile}
+use Rattle.profile.specs.Profile.{messageLength}
+use Rattle.profile.specs.declared.Profile.{Profile}
 use Rattle.sheet.specs.Sheet.{differ}
 
 module _ (p : Profile) where

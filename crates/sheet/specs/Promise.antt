@@ -5,8 +5,8 @@ use mathlib.Core.List.{List}
 use Prim.Native.Nat.{ℕ, _+_, _*_, _≤_, _<_}
 use lib.ListN.{length, getD}
 use Rattle.code.specs.Run.{Outside}
-pub use Rattle.block.specs.Profile.{InRange, messageLength, half}
-pub use Rattle.block.specs.declared.Profile.{Profile}
+pub use Rattle.profile.specs.Profile.{InRange, messageLength, half}
+pub use Rattle.profile.specs.declared.Profile.{Profile}
 pub use Rattle.sheet.specs.Sheet.{writeSheetLeaves, readBlock, readAnswer, readPayload}
 pub use Rattle.sheet.specs.Numbers.{readingNumber, readingChanged}
 pub use Rattle.sheet.specs.Buffers.{Payload, Sheet, Lent, differing}

@@ -6,10 +6,11 @@ use Prim.Native.Nat.{ℕ, zero, suc, _+_, _*_, _/_, _%_}
 use lib.Dec.{eqb}
 use lib.ListN.{length, getD, take, drop, replicate}
 use Rattle.lists.specs.Choice.{pick, both}
-use Rattle.block.specs.Profile.{messageLength}
-use Rattle.block.specs.Block.{refusing, encode, verdict, corrected}
+use Rattle.profile.specs.Profile.{messageLength}
+use Rattle.profile.specs.Refusals.{refusing}
+use Rattle.block.specs.Block.{encode, verdict, corrected}
 use Rattle.block.specs.Numbers.{verdictNumber}
-use Rattle.block.specs.declared.Profile.{Profile}
+use Rattle.profile.specs.declared.Profile.{Profile}
 use Rattle.block.specs.declared.Verdict.{Verdict}
 use Rattle.block.specs.declared.Written.{Written}
 use Rattle.block.specs.declared.Written.the-variants as writes

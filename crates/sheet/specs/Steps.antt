@@ -9,7 +9,7 @@ use lib.ListN.{getD, take, drop}
 use Rattle.lists.specs.Choice.{pick}
 use Rattle.block.specs.Block.{verdict, corrected}
 use Rattle.block.specs.Numbers.{verdictLength}
-use Rattle.block.specs.declared.Profile.{Profile}
+use Rattle.profile.specs.declared.Profile.{Profile}
 use Rattle.block.specs.declared.Verdict.{Verdict}
 use Rattle.sheet.specs.declared.Reading.{Reading}
 use Rattle.sheet.specs.Sheet.{joined, isCorrected, isAccepted, codeword, sheetAnswer}

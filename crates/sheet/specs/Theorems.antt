@@ -6,11 +6,11 @@ use mathlib.Core.Bool.{true, false}
 use mathlib.Core.List.{List}
 use Prim.Native.Nat.{ℕ, _+_, _*_, _/_, _%_, _<_}
 use lib.ListN.{length, getD, drop, replicate}
-use Rattle.block.specs.Profile.{InRange, messageLength}
+use Rattle.profile.specs.Profile.{InRange, messageLength}
 use Rattle.block.specs.Numbers.{writtenNumber, writtenPlace}
 use Rattle.block.specs.Runs.{Word, NoneReached, TwoReached, OneReached}
-use Rattle.block.specs.Promises.{EarlyRefusals}
-use Rattle.block.specs.declared.Profile.{Profile}
+use Rattle.profile.specs.Refusals.{EarlyRefusals}
+use Rattle.profile.specs.declared.Profile.{Profile}
 use Rattle.sheet.specs.Sheet.{interleave, blockOf, joined, messageOf, writeSheetAnswer, writeSheetLeaves, readBlock, differ, readAnswer, readScratch, readPayload}
 use Rattle.sheet.specs.Numbers.{readingNumber, readingPlace, readingChanged}
 pub use Rattle.sheet.specs.Buffers.{Payload, Lent, differing}

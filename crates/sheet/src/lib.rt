@@ -2,13 +2,13 @@
 ghost use mathlib.Core.Path.{_≡_};
 ghost use Prim.Native.Nat.{_+_, _*_, _-_, _≤_, _<_};
 ghost use lib.ListN.{length, replicate};
-ghost use Rattle.block.specs.Profile.{InRange, messageLength};
+ghost use Rattle.profile.specs.Profile.{InRange, messageLength};
 ghost use Rattle.block.specs.Block.{encode};
 ghost use Rattle.sheet.specs.Sheet.{blockOf, joined, writtenSheet, readBlock, readAnswer, readScratch, readPayload, writeSheetAnswer, writeSheetLeaves, isCorrected, isAccepted, readFits, writeSheetFits};
 ghost use Rattle.sheet.specs.Steps.{Laid, CorrectedInto, CorrectedAll, changedBy, messageAt};
-use block::Profile;
 use block::Verdict;
 use block::Written;
+use profile::Profile;
 
 mod numbers;
 

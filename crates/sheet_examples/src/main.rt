@@ -1,7 +1,7 @@
 // Writes and reads the sheets of document 01 and prints what comes out, in decimal. The file stdout has the expected lines: the cells,
 // the payload and the numbers are those of document 01, "The plot lister" and "Bench sheet of examples".
-use block::Profile;
 use libc::STDOUT_FILENO;
+use profile::Profile;
 use sheet::Reading;
 use sheet::Refusal;
 

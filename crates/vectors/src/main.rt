@@ -3,11 +3,11 @@
 // rust/second/src/bin/vectors/main.rs says what a vector is. It begins with a byte for the operation (0 correct, 1 write, 2 check a block;
 // 3 write, 4 read a sheet; 5 check a payload, 6 ask it for a plot, 7 add a plot to it); a word is two bytes, the low one first.
 ghost use Prim.Native.Nat.{_<_, _≤_};
-use block::Profile;
 use libc::STDIN_FILENO;
 use libc::STDOUT_FILENO;
 use plot::Added;
 use plot::Located;
+use profile::Profile;
 use sheet::Reading;
 
 // ---- reading

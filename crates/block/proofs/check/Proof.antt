@@ -3,8 +3,8 @@ use borrow.Author.Needs.{needs}
 use borrow.Author.Tests.{not-true, not-false}
 use mathlib.Core.Path.{_≡_, sym, _∙_}
 use mathlib.Core.Bool.{true, false}
-use Rattle.block.specs.Profile.{inRange}
-use Rattle.block.proofs.Ranges.{in-range}
+use Rattle.profile.specs.Profile.{inRange}
+use Rattle.profile.proofs.Ranges.{in-range}
 use Rattle.block.proofs.Entries.{zero-clean, check-one, check-two, check-rest}
 use Rattle.block.proofs.check.Statement.{statement}
 use Rattle.block.proofs.check.Tie as tie

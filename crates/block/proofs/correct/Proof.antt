@@ -7,10 +7,10 @@ use mathlib.Core.Path.{_≡_, sym, _∙_}
 use mathlib.Core.Bool.{true}
 use mathlib.Core.List.{List}
 use Rattle.lists.proofs.Bytes.{bytes-of}
-use Rattle.block.specs.Profile.{inRange}
+use Rattle.profile.specs.Profile.{inRange}
 use Rattle.block.specs.Block.{correctFits}
 use Rattle.block.specs.Runs.{Cells}
-use Rattle.block.proofs.Ranges.{in-range}
+use Rattle.profile.proofs.Ranges.{in-range}
 use Rattle.block.proofs.Entries.{zero-clean, correct-one, correct-two, correct-rest, correct-fits, read-wrong, out-wrong}
 use Rattle.block.proofs.Outcome.{outcome-clean}
 use Rattle.block.proofs.correct.Statement.{statement}

@@ -5,8 +5,8 @@ use native.Mathlib.Omega.{arith}
 use mathlib.Core.Path.{_≡_, sym, _∙_}
 use mathlib.Core.Bool.{true}
 use lib.ListN.{length}
-use Rattle.block.specs.Profile.{inRange, messageLength}
-use Rattle.block.proofs.Ranges.{in-range}
+use Rattle.profile.specs.Profile.{inRange, messageLength}
+use Rattle.profile.proofs.Ranges.{in-range}
 use Rattle.block.proofs.Entries.{write-one, write-two, write-done, write-fits, message-wrong, block-wrong, encode-law}
 use Rattle.block.proofs.write.Statement.{statement}
 use Rattle.block.proofs.write.Tie as tie

@@ -1,6 +1,6 @@
 -- The checker's answer, at the profile of the five numbers, as its two numbers.
 use mathlib.Core.Path.{ap, _∙_}
-use Rattle.block.specs.declared.Profile.{Profile}
+use Rattle.profile.specs.declared.Profile.{Profile}
 use Rattle.block.specs.Block.{checkAnswer}
 use Rattle.block.specs.Numbers.{checkedNumber, checkedClean}
 use Rattle.capi.proofs.Laws.{number-of}

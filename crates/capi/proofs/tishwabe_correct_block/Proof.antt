@@ -1,6 +1,6 @@
 -- The corrector's answer and cells, at the profile of the five numbers, with the three numbers of the answer.
 use mathlib.Core.Path.{ap, _∙_}
-use Rattle.block.specs.declared.Profile.{Profile}
+use Rattle.profile.specs.declared.Profile.{Profile}
 use Rattle.block.specs.Block.{correctAnswer, correctLeaves}
 use Rattle.block.specs.Numbers.{verdictNumber, verdictStart, verdictLength}
 use Rattle.capi.proofs.Laws.{number-of}

@@ -1,5 +1,5 @@
 -- The three numbers of the profile that was made.
-use Rattle.block.specs.Profile.{messageLength, half}
+use Rattle.profile.specs.Profile.{messageLength, half}
 use Rattle.capi.specs.Numbers.{profileNumber}
 use Rattle.capi.proofs.Laws.{number-of}
 use borrow.Author.Needs.{needs}

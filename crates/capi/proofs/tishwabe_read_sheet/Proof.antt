@@ -1,6 +1,6 @@
 -- The reader's answer and buffers, at the profile of the five numbers, with the three numbers of the answer.
 use mathlib.Core.Path.{ap, _∙_}
-use Rattle.block.specs.declared.Profile.{Profile}
+use Rattle.profile.specs.declared.Profile.{Profile}
 use Rattle.sheet.specs.Sheet.{readAnswer, readScratch, readPayload}
 use Rattle.sheet.specs.Numbers.{readingNumber, readingPlace, readingChanged}
 use Rattle.capi.proofs.Laws.{number-of}

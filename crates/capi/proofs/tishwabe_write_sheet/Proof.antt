@@ -1,6 +1,6 @@
 -- The writer's answer and cells, at the profile of the five numbers.
 use mathlib.Core.Path.{ap, _∙_}
-use Rattle.block.specs.declared.Profile.{Profile}
+use Rattle.profile.specs.declared.Profile.{Profile}
 use Rattle.block.specs.Numbers.{writtenNumber}
 use Rattle.sheet.specs.Sheet.{writeSheetAnswer, writeSheetLeaves}
 use Rattle.capi.proofs.Laws.{number-of}

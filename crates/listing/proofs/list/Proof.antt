@@ -3,9 +3,9 @@ use mathlib.Core.Path.{sym, ap, _∙_}
 use Prim.Native.Nat.{_-_}
 use lib.ListN.{length, take, drop}
 use borrow.Author.Tests.{not-true, not-false}
-use Rattle.block.specs.Profile.{inRange}
-use Rattle.block.specs.declared.Profile.{Profile}
-use Rattle.block.proofs.Ranges.{in-range}
+use Rattle.profile.specs.Profile.{inRange}
+use Rattle.profile.specs.declared.Profile.{Profile}
+use Rattle.profile.proofs.Ranges.{in-range}
 use Rattle.listing.specs.Listing.{sheetText}
 use Rattle.listing.proofs.Cases.{listed-short, listed-bad, listed-sheet, same-text}
 use borrow.Author.Needs.{needs}

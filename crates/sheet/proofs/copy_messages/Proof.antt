@@ -6,7 +6,7 @@ use mathlib.Core.List.{_++_}
 use lib.ListN.{length, take, drop}
 use borrow.Rule.Slice.PartMut.{midOf, mid-len, same-len-mid}
 use Rattle.lists.proofs.Fill.{fill-all}
-use Rattle.block.specs.Profile.{messageLength}
+use Rattle.profile.specs.Profile.{messageLength}
 use Rattle.sheet.specs.Sheet.{joined}
 use Rattle.sheet.specs.Steps.{messageAt}
 use Rattle.sheet.proofs.Places.{part-inside, cells-inside}

@@ -5,8 +5,8 @@ use mathlib.Core.Path.{_≡_, sym, ap, _∙_}
 use mathlib.Core.Bool.{true}
 use lib.ListN.{length, replicate}
 use borrow.Author.Tests.{not-true, not-false}
-use Rattle.block.specs.Profile.{inRange}
-use Rattle.block.proofs.Ranges.{in-range}
+use Rattle.profile.specs.Profile.{inRange}
+use Rattle.profile.proofs.Ranges.{in-range}
 use Rattle.sheet.specs.Sheet.{readFits}
 use Rattle.sheet.proofs.Entry.{read-lengths, read-bad, read-wrong, read-refused, read-accepted}
 use Rattle.sheet.proofs.read.Statement.{statement}

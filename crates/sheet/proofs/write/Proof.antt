@@ -4,8 +4,8 @@ use mathlib.Core.Path.{_≡_, sym, _∙_}
 use mathlib.Core.Bool.{true}
 use lib.ListN.{length}
 use borrow.Author.Tests.{not-true, not-false}
-use Rattle.block.specs.Profile.{inRange}
-use Rattle.block.proofs.Ranges.{in-range}
+use Rattle.profile.specs.Profile.{inRange}
+use Rattle.profile.proofs.Ranges.{in-range}
 use Rattle.sheet.specs.Sheet.{writeSheetFits}
 use Rattle.sheet.proofs.Entry.{write-lengths, write-bad, write-wrong, write-done}
 use Rattle.sheet.proofs.write.Statement.{statement}

@@ -4,7 +4,7 @@ use native.Mathlib.Omega.{arith}
 use mathlib.Core.Path.{_≡_, refl, sym, ap, _∙_}
 use lib.ListN.{length, take, drop}
 use borrow.Rule.Slice.PartMut.{mid-len}
-use Rattle.block.specs.Profile.{messageLength}
+use Rattle.profile.specs.Profile.{messageLength}
 use Rattle.sheet.specs.Sheet.{messageOf}
 use Rattle.sheet.proofs.Places.{part-inside}
 use Rattle.sheet.proofs.Steps.{WrittenBelow, written-none, written-more, written-all}

@@ -1,9 +1,9 @@
--- `block::Profile::in_range` meets its contract: each refusal names a number that is out of its range, and past all of them each is in it.
+-- `profile::Profile::in_range` meets its contract: each refusal names a number that is out of its range, and past all of them each is in it.
 use native.Mathlib.Omega.{arith}
 use mathlib.Core.Path.{sym}
-use Rattle.block.proofs.Ranges.{in-range, out-of-range}
-use Rattle.block.proofs.Profile.in_range.Statement.{statement}
-use Rattle.block.proofs.Profile.in_range.Tie as tie
+use Rattle.profile.proofs.Ranges.{in-range, out-of-range}
+use Rattle.profile.proofs.Profile.in_range.Statement.{statement}
+use Rattle.profile.proofs.Profile.in_range.Tie as tie
 
 returns : tie.Need-returns
 returns c = out-of-range _ (λ v. omega (arith, c .if1 .taken))

@@ -1,11 +1,11 @@
 -- The test of the five ranges is true exactly if each number is in its range.
 use mathlib.Core.Path.{_≡_, sym}
-use mathlib.Core.Logic.{_↔_, ⊎-elim}
+use mathlib.Core.Logic.{⊎-elim}
 use mathlib.Core.Bool.{true, false}
 use borrow.Author.Tests.{leb-true, ltb-true, le-leb, lt-ltb}
 use Rattle.lists.proofs.Test.{both-true, true-or-false}
-use Rattle.block.specs.Profile.{InRange, inRange}
-use Rattle.block.specs.declared.Profile.{Profile}
+use Rattle.profile.specs.Profile.{InRange, inRange, InRangeIff}
+use Rattle.profile.specs.declared.Profile.{Profile}
 
 ranges-of : (p : Profile) → inRange p ≡ true → InRange p
 unfolding inRange
@@ -45,7 +45,7 @@ of-ranges p v =
       le-leb _ _ (v .depth-most),
     )
 
-pub in-range : (p : Profile) → (inRange p ≡ true) ↔ InRange p
+pub in-range : InRangeIff
 in-range p = (ranges-of p, of-ranges p)
 
 pub out-of-range : (p : Profile) → (InRange p → ⊥) → false ≡ inRange p

@@ -5,11 +5,11 @@ use mathlib.Core.Bool.{Bool, true, false}
 use Prim.Native.Nat.{ℕ}
 use native.Mathlib.Omega.{arith}
 use Rattle.lists.proofs.Test.{true-or-false, true-false}
-use Rattle.block.specs.Profile.{InRange, inRange}
-use Rattle.block.specs.Block.{refusing}
-use Rattle.block.specs.Promises.{EarlyRefusals}
-use Rattle.block.specs.declared.Profile.{Profile}
-use Rattle.block.proofs.Ranges.{in-range}
+use Rattle.profile.specs.Profile.{InRange, inRange}
+use Rattle.profile.specs.Refusals.{refusing}
+use Rattle.profile.specs.Refusals.{EarlyRefusals}
+use Rattle.profile.specs.declared.Profile.{Profile}
+use Rattle.profile.proofs.Ranges.{in-range}
 
 module _ {A : Type 0} (p : Profile) (fits : Bool) (one two rest : A) where
   pub refuse-one : inRange p ≡ false → one ≡ refusing p fits one two rest

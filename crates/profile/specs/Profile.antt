@@ -5,7 +5,7 @@ use mathlib.Core.Bool.{Bool, true}
 use Prim.Native.Nat.{ℕ, _-_, _/_, _≤_, _<_}
 use lib.Dec.{leb, ltb}
 use Rattle.lists.specs.Choice.{both}
-use Rattle.block.specs.declared.Profile.{Profile}
+use Rattle.profile.specs.declared.Profile.{Profile}
 
 -- the table of ranges: least and most of each number
 pub record InRange (p : Profile) : Type 0 where

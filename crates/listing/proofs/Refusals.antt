@@ -1,0 +1,92 @@
+-- The lister's refusals: what the sheet's theorems say of the reader's answer on the lister's own buffers, and the text for that answer.
+use mathlib.Core.Path.{_≡_, refl, sym, ap₂, _∙_}
+use mathlib.Core.Logic.{_≢_, _⊎_, inl, inr, ⊎-elim}
+use mathlib.Core.List.{List}
+use Prim.Native.Nat.{ℕ, _≤_}
+use native.Mathlib.Omega.{arith}
+use lib.ListN.{length, drop}
+use borrow.Author.Tests.{le-ltb}
+use Rattle.profile.specs.Profile.{InRange}
+use Rattle.profile.specs.declared.Profile.{Profile}
+use Rattle.sheet.specs.Sheet.{readAnswer, readPayload}
+use Rattle.sheet.specs.Numbers.{readingNumber, readingPlace}
+use Rattle.sheet.specs.Buffers.{Lent}
+use Rattle.sheet.specs.Theorems.{LowestRefused, AllWords, Results, ReadRefusals}
+use Rattle.sheet.specs.declared.Reading.{Reading}
+use Rattle.sheet.specs.declared.Reading.the-variants.{Refused, Accepted}
+use Rattle.sheet.proofs.Theorems.{read-results, read-accepts}
+use Rattle.sheet.proofs.Refusals.{sheet-refusals}
+use Rattle.plot.specs.Grammar.{Parsed, Plots, Stopped, reading}
+use Rattle.plot.specs.Answers.{checkedOf}
+use Rattle.plot.specs.Numbers.{payloadNumber, payloadPlace}
+use Rattle.listing_text.specs.Text.{refusalText, listingText}
+use Rattle.listing.specs.Listing.{inputProfile, sheetAnswerText, scratchBuffer, payloadBuffer, sheetText, listed}
+use Rattle.listing.specs.Refusals.{SheetInput, messages, ListRefusals}
+use Rattle.listing.proofs.Cases.{own-buffers, text-accepted, listed-short}
+
+-- ---- the text for a refusal
+
+answer-text : (a : Reading) (m : List ℕ) → readingNumber a ≢ 0 → sheetAnswerText a m ≡ refusalText (readingNumber a) (readingPlace a)
+unfolding sheetAnswerText
+answer-text (Refused r) m n = refl
+answer-text (Accepted changed) m n = absurd (n refl)
+
+payload-text : (changed : ℕ) (q : Parsed) → payloadNumber (checkedOf 0 q) ≢ 0 → listingText changed q ≡ refusalText (payloadNumber (checkedOf 0 q)) (payloadPlace (checkedOf 0 q))
+unfolding checkedOf listingText
+payload-text changed (Plots ps end) n = absurd (n refl)
+payload-text changed (Stopped r) n = refl
+
+module _ (p : Profile) (sheet : List ℕ) where
+  abbrev answer : Reading
+  answer = readAnswer p sheet (scratchBuffer p) (payloadBuffer p)
+
+  refused-text : (number place : ℕ) → readingNumber answer ≡ number → readingPlace answer ≡ place → number ≢ 0 → sheetText p sheet ≡ refusalText number place
+  unfolding sheetText
+  refused-text number place e f n = answer-text answer (readPayload p sheet (scratchBuffer p) (payloadBuffer p)) (λ z. n (sym e ∙ z)) ∙ ap₂ refusalText e f
+
+  refusals : ReadRefusals p sheet (scratchBuffer p) (payloadBuffer p)
+  refusals = sheet-refusals p .reads sheet (scratchBuffer p) (payloadBuffer p)
+
+  module _ (v : InRange p) (h : Lent p sheet (scratchBuffer p) (payloadBuffer p)) where
+    results : Results p sheet (scratchBuffer p) (payloadBuffer p)
+    results = read-results p sheet (scratchBuffer p) (payloadBuffer p) v h
+
+    lowest-text : (d number : ℕ) → LowestRefused p sheet d number → sheetText p sheet ≡ refusalText number d
+    lowest-text d number o =
+        let n : number ≢ 0 = ⊎-elim (λ z q. let e : number ≡ 3 = z .0 in omega arith) (λ z q. let e : number ≡ 4 = z .0 in omega arith) (o .refused) in
+        let q = results .refused d number n .1 o in
+        refused-text number d (q .0) (q .1) n
+
+-- ---- an input of five bytes and more
+
+module _ (input : List ℕ) where
+  abbrev p : Profile
+  p = inputProfile input
+
+  abbrev sheet : List ℕ
+  sheet = drop 5 input
+
+  listed-rest : 5 ≤ length input → listed input ≡ sheetText p sheet
+  unfolding listed
+  listed-rest l = rw (le-ltb (length input) 5 l)
+
+  payload-refused : SheetInput input → (words : ℕ → List ℕ) → AllWords p sheet words → (q : Parsed) → reading (messages input words) ≡ q → payloadNumber (checkedOf 0 q) ≢ 0
+      → listed input ≡ refusalText (payloadNumber (checkedOf 0 q)) (payloadPlace (checkedOf 0 q))
+  payload-refused h words a q e n =
+      let lent : Lent p sheet (scratchBuffer p) (payloadBuffer p) = own-buffers p sheet (h .cells) in
+      let t = read-accepts p sheet (scratchBuffer p) (payloadBuffer p) (h .ranges) lent words a in
+      listed-rest (h .profile) ∙ sym (text-accepted p sheet (scratchBuffer p) (payloadBuffer p) refl refl _ (messages input words) (sym (t .0)) (sym (t .1 .payload)))
+      ∙ ap₂ listingText refl e ∙ payload-text _ q n
+
+pub list-refusals : (input : List ℕ) → ListRefusals input
+list-refusals input = record {
+  few = λ l. sym (listed-short input l);
+  profile = λ l n.
+      let e = refusals (p input) (sheet input) .early .one .1 n in
+      listed-rest input l ∙ refused-text (p input) (sheet input) 1 0 e (refusals (p input) (sheet input) .place (inl e)) (λ q. omega arith);
+  frame = λ l v n.
+      let e = refusals (p input) (sheet input) .early .two .1 (v, λ z. n (z .0)) in
+      listed-rest input l ∙ refused-text (p input) (sheet input) 2 0 e (refusals (p input) (sheet input) .place (inr e)) (λ q. omega arith);
+  blocks = λ h d number o. listed-rest input (h .profile) ∙ lowest-text (p input) (sheet input) (h .ranges) (own-buffers (p input) (sheet input) (h .cells)) d number o;
+  records = λ h words a n. payload-refused input h words a (reading (messages input words)) refl n;
+}
