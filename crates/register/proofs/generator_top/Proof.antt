@@ -5,8 +5,8 @@ use native.Mathlib.Omega.{arith}
 use lib.ListN.{take}
 use Rattle.field.specs.Field.{alpha}
 use Rattle.code.specs.Code.{generator}
+use Rattle.words.specs.Doubles.{DoublesOf}
 use Rattle.register.specs.Words.{cells}
-use Rattle.register.specs.Doubles.{DoublesOf}
 use Rattle.register.specs.Register.{onTop}
 use Rattle.register.proofs.Generator.{top-none, top-more, first-root, next-root}
 use Rattle.register.proofs.generator_top.Statement.{statement}

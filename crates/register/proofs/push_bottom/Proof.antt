@@ -1,8 +1,8 @@
 -- Each word takes the highest cell of the one before, the first one takes c.
 use mathlib.Core.Path.{_∙_, ap}
 use Prim.Native.Nat.{ℕ}
-use Rattle.register.specs.Words.{bytesFrom}
-use Rattle.register.specs.Register.{shiftUp}
+use Rattle.words.specs.Word.{bytesFrom}
+use Rattle.words.specs.Cells.{shiftUp}
 use Rattle.register.proofs.Cells.{cells-up}
 use Rattle.register.proofs.push_bottom.Statement.{statement}
 use Rattle.register.proofs.push_bottom.Tie as tie

@@ -1,7 +1,7 @@
 -- Each word takes the lowest cell of the next, the last one takes c.
 use mathlib.Core.Path.{_∙_, ap}
-use Rattle.register.specs.Words.{bytesFrom}
-use Rattle.register.specs.Register.{shiftDown}
+use Rattle.words.specs.Word.{bytesFrom}
+use Rattle.words.specs.Cells.{shiftDown}
 use Rattle.register.proofs.Cells.{cells-down}
 use Rattle.register.proofs.push_top.Statement.{statement}
 use Rattle.register.proofs.push_top.Tie as tie
