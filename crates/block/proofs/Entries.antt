@@ -18,11 +18,13 @@ use Rattle.code.specs.Search.{extent}
 use Rattle.lists.proofs.Bytes.{take-bytes, drop-bytes}
 use Rattle.code.proofs.Poly.{getD-zeros}
 use Rattle.code.proofs.Division.{remainder-length}
-use Rattle.register.specs.Register.{padTo, onTop, feeds, monicOf, backGenerator}
-use Rattle.register.proofs.Align.{pad-sum, drop-top, pad-is}
+use Rattle.words.specs.Cells.{padTo}
+use Rattle.register.specs.Register.{onTop, feeds, monicOf, backGenerator}
+use Rattle.words.proofs.Pad.{pad-sum, pad-is}
+use Rattle.register.proofs.Align.{drop-top}
 use Rattle.register.proofs.Forward.{feeds-top}
 use Rattle.register.proofs.Generator.{monic-generator}
-use Rattle.register.proofs.LastCell.{extent-pad}
+use Rattle.words.proofs.LastCell.{extent-pad}
 use Rattle.register.proofs.Remainder.{remainder-feeds, check-cells}
 use Rattle.profile.specs.Profile.{InRange, inRange, messageLength}
 use Rattle.block.specs.Block.{checkCells, encode, isClean, verdict, filled, checkAnswer, writeFits, writeAnswer, writeLeaves, correctFits, correctAnswer, correctLeaves}

@@ -16,8 +16,8 @@ use Rattle.code.proofs.Generator.{generator-length}
 use Rattle.code.proofs.Division.{remainder-length}
 use Rattle.code.proofs.Shifted.{backSteps-length}
 use Rattle.register.specs.Words.{cells}
-use Rattle.register.specs.Register.{padTo}
-use Rattle.register.proofs.Align.{pad-is}
+use Rattle.words.specs.Cells.{padTo}
+use Rattle.words.proofs.Pad.{pad-is}
 use Rattle.profile.specs.Profile.{InRange}
 use Rattle.block.specs.Block.{isClean, decided, verdict, filled}
 use Rattle.block.specs.Found.{bestOf, Searched}

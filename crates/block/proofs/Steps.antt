@@ -26,9 +26,9 @@ use Rattle.code.proofs.Generator.{generator-length}
 use Rattle.code.proofs.Shifted.{backSteps-length}
 use Rattle.register.specs.Words.{cells}
 use Rattle.register.specs.declared.Register.{Register}
-use Rattle.register.specs.Register.{padTo}
-use Rattle.register.proofs.Align.{pad-length, pad-is}
-use Rattle.register.proofs.LastCell.{extent-pad}
+use Rattle.words.specs.Cells.{padTo}
+use Rattle.words.proofs.Pad.{pad-length, pad-is}
+use Rattle.words.proofs.LastCell.{extent-pad}
 use Rattle.block.specs.Found.{bestOf, improvedBy, Searching}
 use Rattle.profile.specs.declared.Profile.{Profile}
 use Rattle.block.specs.declared.Found.{Found}

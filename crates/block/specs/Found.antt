@@ -9,7 +9,8 @@ use Rattle.code.specs.Code.{generator}
 use Rattle.code.specs.Run.{backSteps}
 use Rattle.code.specs.Search.{Best, extent, extents, scanned}
 use Rattle.register.specs.Words.{cells}
-use Rattle.register.specs.Register.{padTo, onTop}
+use Rattle.words.specs.Cells.{padTo}
+use Rattle.register.specs.Register.{onTop}
 use Rattle.register.specs.declared.Register.{Register}
 use Rattle.profile.specs.declared.Profile.{Profile}
 use Rattle.block.specs.declared.Found.{Found}

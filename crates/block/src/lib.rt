@@ -8,7 +8,7 @@ ghost use lib.ListN.{length, take};
 ghost use Rattle.code.specs.Code.{generator, remainder};
 ghost use Rattle.code.specs.Run.{ZeroFrom};
 ghost use Rattle.register.specs.Words.{cells};
-ghost use Rattle.register.specs.Register.{padTo};
+ghost use Rattle.words.specs.Cells.{padTo};
 ghost use Rattle.profile.specs.Profile.{InRange, messageLength};
 ghost use Rattle.block.specs.Block.{checkCells, isClean, verdict, filled, writeAnswer, writeLeaves, checkAnswer, correctAnswer, correctLeaves};
 ghost use Rattle.block.specs.Found.{generatorOnTop, improvedBy, Searched};

@@ -10,8 +10,9 @@ use Rattle.code.specs.Poly.{padd, pscale}
 use Rattle.code.specs.Code.{generator}
 use Rattle.code.specs.Run.{tail, backStep}
 use Rattle.code.proofs.Poly.{pscale-mul}
-use Rattle.register.specs.Register.{shiftDown, padTo, backGenerator}
-use Rattle.register.proofs.Align.{pad-first, pad-sum, pad-scale, pad-down}
+use Rattle.words.specs.Cells.{shiftDown, padTo}
+use Rattle.words.proofs.Pad.{pad-first, pad-sum, pad-scale, pad-down}
+use Rattle.register.specs.Register.{backGenerator}
 use Rattle.register.proofs.Multiples.{rows-sum}
 
 tail-padd : (R q : List ℕ) → tail (padd R q) ≡ padd (drop 1 R) (tail q)

@@ -1,20 +1,22 @@
 -- What the functions over eight words do to the list of cells: each is settled word by word, and the words meet at the cell that passes on.
 use mathlib.Core.Path.{_≡_, refl, sym, ap, ap₂, _∙_}
 use mathlib.Core.List.{List, [], _∷_, _++_}
-use Prim.Native.Nat.{ℕ, zero, suc, _/_, _%_, _*_, _^_, _<_}
-use native.Mathlib.Nat.{mod-eq-of-lt, mod-lt}
+use Prim.Native.Nat.{ℕ, _%_, _^_, _<_}
+use native.Mathlib.Nat.{mod-eq-of-lt}
 use native.Mathlib.Omega.{arith}
 use lib.Bits.{bitXor}
 use lib.ListN.{length, getD, take}
 use Rattle.field.specs.Field.{add}
 use Rattle.field.proofs.Sum.{add-lt}
 use Rattle.lists.specs.Bytes.{Bytes}
+use Rattle.lists.proofs.Bytes.{append-bytes}
 use Rattle.code.specs.Poly.{padd, pscale}
-use Rattle.register.specs.Words.{byte, bytesFrom, unpack, words, cells}
-use Rattle.register.specs.Register.{shiftUp, shiftDown}
+use Rattle.words.specs.Word.{byte, bytesFrom}
+use Rattle.words.specs.Cells.{shiftUp, shiftDown}
+use Rattle.words.proofs.Linear.{shr}
+use Rattle.words.proofs.Words.{word-bytes, word-xor}
+use Rattle.register.specs.Words.{unpack, words, cells}
 use Rattle.register.specs.declared.Register.{Register}
-use Rattle.register.proofs.Linear.{shr}
-use Rattle.register.proofs.Words.{word-xor}
 
 abbrev pub cat8 : (a b c d e f g h : List ℕ) → List ℕ
 cat8 a b c d e f g h = a ++ (b ++ (c ++ (d ++ (e ++ (f ++ (g ++ (h ++ [])))))))
@@ -85,20 +87,9 @@ pub feedback-is : (x : Register) (c : ℕ) → x .w7 < 2 ^ 64 → c < 256 → (b
 unfolding add
 feedback-is x c h hc = (ap (λ (t : ℕ). bitXor t c) (cells-top x h), add-lt (shr 56 (x .w7)) c (omega arith) hc)
 
-byte-lt : (w k : ℕ) → byte w k < 256
-unfolding byte
-byte-lt w k = mod-lt (w / 2 ^ (8 * k)) (omega arith)
-
-from-bytes : (n k w : ℕ) (l : List ℕ) → Bytes l → Bytes (bytesFrom n k w ++ l)
-from-bytes zero k w l h = h
-from-bytes (suc n) k w l h = (byte-lt w k, from-bytes n (suc k) w l h)
-
-pub word-cells-bytes : (w : ℕ) → Bytes (bytesFrom 8 0 w)
-word-cells-bytes w = from-bytes 8 0 w [] tt
-
 unpack-bytes : (ws : List ℕ) → Bytes (unpack ws)
 unpack-bytes [] = tt
-unpack-bytes (w ∷ ws) = from-bytes 8 0 w (unpack ws) (unpack-bytes ws)
+unpack-bytes (w ∷ ws) = append-bytes (bytesFrom 8 0 w) (unpack ws) (word-bytes 8 0 w) (unpack-bytes ws)
 
 pub cells-bytes : (x : Register) → Bytes (cells x)
 unfolding cells

@@ -7,8 +7,9 @@ use lib.ListN.{length, getD, take, drop, replicate, length-append, length-replic
 use lib.Seq.{drop-cons, drop-length, take-all}
 use Rattle.code.specs.Poly.{padd, pscale}
 use Rattle.field.specs.Field.{add}
+use Rattle.words.specs.Cells.{shiftUp}
 use Rattle.register.specs.Words.{cells}
-use Rattle.register.specs.Register.{shiftUp, feed, feeds, onTop}
+use Rattle.register.specs.Register.{feed, feeds, onTop}
 use Rattle.register.specs.declared.Register.{Register}
 use Rattle.register.proofs.Cells.{take-cells}
 use Rattle.register.proofs.Multiples.{rows-sum}

@@ -16,10 +16,12 @@ use Rattle.code.specs.Code.{generator}
 use Rattle.code.specs.Run.{tail}
 use Rattle.code.proofs.Poly.{padd-comm, pscale-length}
 use Rattle.code.proofs.Generator.{generator-length, generator-monic, generator-suc}
-use Rattle.register.specs.Doubles.{DoublesOf}
-use Rattle.register.specs.declared.word.Doubles.{Doubles}
-use Rattle.register.specs.Register.{shiftDown, onTop, padTo, monicOf, backGenerator}
-use Rattle.register.proofs.Align.{pad-first, pad-scale, low-scale, low-sum}
+use Rattle.words.specs.Doubles.{DoublesOf}
+use Rattle.words.specs.declared.Doubles.{Doubles}
+use Rattle.words.specs.Cells.{shiftDown, padTo}
+use Rattle.words.proofs.Pad.{pad-first, pad-scale}
+use Rattle.register.specs.Register.{onTop, monicOf, backGenerator}
+use Rattle.register.proofs.Align.{low-scale, low-sum}
 
 -- ---- at the top
 

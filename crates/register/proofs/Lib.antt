@@ -1,11 +1,8 @@
-pub mod Linear
-pub mod Words
 pub mod Cells
 pub mod Multiples
 pub mod Align
 pub mod Moves
-pub mod LastCell
-pub mod Bits
+pub mod LastWord
 pub mod Forward
 pub mod Remainder
 pub mod Backward

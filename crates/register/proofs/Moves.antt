@@ -1,50 +1,21 @@
--- Cells that come in and go out one at a time, and cells moved down: what is left of a list after i cells is what the loops keep.
-use mathlib.Core.Logic.{⊎-elim}
+-- Cells that come in eight at a time and go out one at a time, and cells moved down: what is left of a list after i cells is what the loops keep.
 use mathlib.Core.Path.{_≡_, refl, sym, ap, ap₂, _∙_}
 use mathlib.Core.List.{List, [], _∷_, _++_}
-use Prim.Native.Nat.{ℕ, zero, suc, _+_, _-_, _*_, _/_, _%_, _≤_, _<_, min}
+use Prim.Native.Nat.{ℕ, zero, suc, _+_, _*_, _/_, _%_, _≤_, _<_}
 use native.Mathlib.Omega.{arith}
 use native.Mathlib.Numerals.{add-one}
 use native.Mathlib.Nat.{zero-add, suc-add}
-use lib.ListN.{length, getD, set, take, drop, replicate, length-take, length-drop, drop-of-length-le}
-use lib.Seq.{drop-cons, drop-drop, drop-nil, drop-at, length-take-le, getD-take, take-add, take-suc, take-suc-set, take-all}
-use Rattle.lists.proofs.Test.{lt-or-ge}
-use Rattle.register.specs.Words.{byte, bytesFrom, unpack, cells}
-use Rattle.register.specs.Register.{shiftUp, shiftDown, padTo}
+use lib.ListN.{length, getD, set, take, drop, length-drop}
+use lib.Seq.{drop-drop, drop-nil, take-suc, take-suc-set, take-all}
+use Rattle.words.specs.Word.{byte, bytesFrom}
+use Rattle.words.specs.Cells.{shiftDown, padTo}
+use Rattle.words.proofs.Pad.{pad-full, pad-down, drop-pad}
+use Rattle.register.specs.Words.{unpack, cells}
 use Rattle.register.specs.declared.Register.{Register}
 use Rattle.register.proofs.Cells.{cells-length, cong8}
-use Rattle.register.proofs.Align.{pad-nil, pad-full, pad-take, pad-up, pad-down, drop-pad}
 
--- ---- cells that come in, from the last of the first m to the first
+-- ---- cells that come in, eight at a time
 
-pub load-none : (n m k : ℕ) (s : List ℕ) → k ≡ min (length s) m → padTo n (drop k (take m s)) ≡ replicate n 0
-load-none n m k s e =
-    let h : length (take m s) ≤ k = omega (arith, length-take m s) in
-    ap (padTo n) (drop-of-length-le (take m s) h) ∙ pad-nil n
-
-pub load-more : (n m i : ℕ) (s X N : List ℕ) → 0 < i → i ≤ m → i ≤ length s → X ≡ padTo n (drop i (take m s)) → N ≡ shiftUp (getD s (i - 1) 0) X
-    → N ≡ padTo n (drop (i - 1) (take m s))
-load-more n m zero s X N p l h eX eN = absurd (omega arith)
-load-more n m (suc i) s X N p l h eX eN =
-    let e : suc i - 1 ≡ i = omega arith in
-    let t : i < length (take m s) = omega (arith, length-take m s) in
-    eN ∙ ap₂ (λ (k : ℕ) (u : List ℕ). shiftUp (getD s k 0) u) e eX ∙ pad-up n (getD s i 0) (drop (suc i) (take m s))
-    ∙ ap (λ (c : ℕ). padTo n (c ∷ drop (suc i) (take m s))) (sym (getD-take m s i 0 l))
-    ∙ ap (padTo n) (sym (drop-cons (take m s) i 0 t) ∙ ap (λ (k : ℕ). drop k (take m s)) (sym e))
-
--- all of the n cells from k on, or as many as there are
-pub load-all : (n k i : ℕ) (s : List ℕ) → i ≡ min k (length s) → padTo n (drop i (take (k + n) s)) ≡ padTo n (drop k s)
-load-all n k i s e =
-    ⊎-elim
-    (λ l.
-    let q : i ≡ k = omega arith in
-    ap (λ (j : ℕ). padTo n (drop j (take (k + n) s))) q ∙ ap (padTo n) (ap (drop k) (take-add k n s) ∙ drop-at (take k s) (take n (drop k s)) k (length-take-le k s (omega arith))) ∙ pad-take n (drop k s))
-    (λ g.
-    let short : length (take (k + n) s) ≤ i = omega (arith, length-take (k + n) s) in
-    ap (padTo n) (drop-of-length-le (take (k + n) s) short ∙ sym (drop-of-length-le s g)))
-    (lt-or-ge k (length s))
-
--- eight cells at a time
 chunks : ℕ → ℕ → List ℕ → List ℕ
 chunks zero k s = []
 chunks (suc m) k s = padTo 8 (drop k s) ++ chunks m (k + 8) s
@@ -72,10 +43,6 @@ pub load-words : (x : Register) (s : List ℕ) → bytesFrom 8 0 (x .w0) ≡ pad
     → cells x ≡ padTo 64 s
 unfolding cells chunks
 load-words x s a b c d e f g h = cong8 a b c d e f g h ∙ chunks-pad 8 0 s
-
-pub no-cells : bytesFrom 8 0 0 ≡ replicate 8 0
-unfolding byte
-no-cells = refl
 
 -- ---- cells moved down
 

@@ -18,7 +18,8 @@ use Rattle.code.proofs.Poly.{padd-assoc, padd-comm, padd-length, padd-bytes, pa
 use Rattle.code.proofs.Generator.{generator-bytes, generator-length, generator-monic, generator-root}
 use Rattle.code.proofs.Distance.{determined, distance-le}
 use Rattle.code.proofs.Division.{step-length, step-bytes, eval-remStep, remainder-length, remainder-bytes, remainder-syndrome}
-use Rattle.register.specs.Register.{shiftUp, feed, feeds}
+use Rattle.words.specs.Cells.{shiftUp}
+use Rattle.register.specs.Register.{feed, feeds}
 
 -- the sum of x ∷ R and a list one longer than R, without its last cell
 take-sum : (x : ℕ) (R q : List ℕ) → length q ≡ suc (length R) → take (length R) (padd (x ∷ R) q) ≡ padd (shiftUp x R) (take (length R) q)

@@ -1,16 +1,9 @@
--- The list of cells that a register stands for: eight words of eight cells, the lowest first. A cell is a byte of its word.
+-- The list of cells that a register stands for: eight words of eight cells, the lowest first. What the cells of a word are is defined in the
+-- crate `words`.
 use mathlib.Core.List.{List, [], _∷_, _++_}
-use Prim.Native.Nat.{ℕ, zero, suc, _*_, _/_, _%_, _^_}
+use Prim.Native.Nat.{ℕ}
+use Rattle.words.specs.Word.{bytesFrom}
 use Rattle.register.specs.declared.Register.{Register}
-
--- cell k of a word
-unfoldable pub byte : ℕ → ℕ → ℕ
-byte w k = w / 2 ^ (8 * k) % 2 ^ 8
-
--- n cells of a word, from cell k on
-abbrev pub bytesFrom : ℕ → ℕ → ℕ → List ℕ
-bytesFrom zero k w = []
-bytesFrom (suc n) k w = byte w k ∷ bytesFrom n (suc k) w
 
 -- the cells of the words of a list
 abbrev pub unpack : List ℕ → List ℕ

@@ -1,5 +1,5 @@
 // A shift register of 64 cells, each a byte of GF(256): eight words of eight cells, by value. Its contracts are equations on the list of its
-// cells, the lowest first. Each function works on a word at a time by the operations of the module `word`.
+// cells, the lowest first. Each function works on a word at a time by the operations of the crate `words`.
 ghost use mathlib.Core.Path.{_≡_};
 ghost use Prim.Native.Nat.{ℕ, _<_, _*_, _-_, _/_, _%_, _^_, min};
 ghost use lib.Dec.{eqb};
@@ -8,12 +8,11 @@ ghost use Rattle.field.specs.Field.{add};
 ghost use Rattle.code.specs.Poly.{padd, pscale};
 ghost use Rattle.code.specs.Code.{generator};
 ghost use Rattle.code.specs.Search.{extent};
+ghost use Rattle.words.specs.Cells.{shiftUp, shiftDown, padTo};
+ghost use Rattle.words.specs.Doubles.{DoublesOf};
 ghost use Rattle.register.specs.Words.{cells};
-ghost use Rattle.register.specs.Doubles.{DoublesOf};
-ghost use Rattle.register.specs.Register.{shiftUp, shiftDown, feeds, padTo, onTop, monicOf, backGenerator};
-use word::Doubles;
-
-mod word;
+ghost use Rattle.register.specs.Register.{feeds, onTop, monicOf, backGenerator};
+use words::Doubles;
 
 /// Eight words of eight cells; the lowest cell is the lowest byte of w0.
 pub struct Register {
@@ -64,14 +63,14 @@ pub fn push_bottom(x: Register, c: u8) -> Register
     ensures { λ r. ⌜ cells r ≡ shiftUp c (cells x) ⌝ }
 {
     Register {
-        w0: word::word_up(x.w0, word::at_top(c)),
-        w1: word::word_up(x.w1, x.w0),
-        w2: word::word_up(x.w2, x.w1),
-        w3: word::word_up(x.w3, x.w2),
-        w4: word::word_up(x.w4, x.w3),
-        w5: word::word_up(x.w5, x.w4),
-        w6: word::word_up(x.w6, x.w5),
-        w7: word::word_up(x.w7, x.w6),
+        w0: words::word_up(x.w0, words::at_top(c)),
+        w1: words::word_up(x.w1, x.w0),
+        w2: words::word_up(x.w2, x.w1),
+        w3: words::word_up(x.w3, x.w2),
+        w4: words::word_up(x.w4, x.w3),
+        w5: words::word_up(x.w5, x.w4),
+        w6: words::word_up(x.w6, x.w5),
+        w7: words::word_up(x.w7, x.w6),
     }
 }
 
@@ -80,14 +79,14 @@ pub fn push_top(x: Register, c: u8) -> Register
     ensures { λ r. ⌜ cells r ≡ shiftDown (cells x) c ⌝ }
 {
     Register {
-        w0: word::word_down(x.w0, x.w1),
-        w1: word::word_down(x.w1, x.w2),
-        w2: word::word_down(x.w2, x.w3),
-        w3: word::word_down(x.w3, x.w4),
-        w4: word::word_down(x.w4, x.w5),
-        w5: word::word_down(x.w5, x.w6),
-        w6: word::word_down(x.w6, x.w7),
-        w7: word::word_down(x.w7, word::at_bottom(c)),
+        w0: words::word_down(x.w0, x.w1),
+        w1: words::word_down(x.w1, x.w2),
+        w2: words::word_down(x.w2, x.w3),
+        w3: words::word_down(x.w3, x.w4),
+        w4: words::word_down(x.w4, x.w5),
+        w5: words::word_down(x.w5, x.w6),
+        w6: words::word_down(x.w6, x.w7),
+        w7: words::word_down(x.w7, words::at_bottom(c)),
     }
 }
 
@@ -124,14 +123,14 @@ pub fn twice(x: Register) -> Register
     ensures { λ r. ⌜ cells r ≡ pscale 2 (cells x) ⌝ }
 {
     Register {
-        w0: word::word_twice(x.w0),
-        w1: word::word_twice(x.w1),
-        w2: word::word_twice(x.w2),
-        w3: word::word_twice(x.w3),
-        w4: word::word_twice(x.w4),
-        w5: word::word_twice(x.w5),
-        w6: word::word_twice(x.w6),
-        w7: word::word_twice(x.w7),
+        w0: words::word_twice(x.w0),
+        w1: words::word_twice(x.w1),
+        w2: words::word_twice(x.w2),
+        w3: words::word_twice(x.w3),
+        w4: words::word_twice(x.w4),
+        w5: words::word_twice(x.w5),
+        w6: words::word_twice(x.w6),
+        w7: words::word_twice(x.w7),
     }
 }
 
@@ -202,7 +201,7 @@ pub fn divide(g: Register, input: &[u8]) -> Register
 fn clamp(r: usize) -> usize
     ensures { λ n. ⌜ n ≡ min r 64 ⌝ }
 {
-    word::least(r, 64)
+    words::least(r, 64)
 }
 
 /// The first 64 cells of a slice from the lowest cell on, with zeros where it has fewer.
@@ -210,14 +209,14 @@ pub fn load(s: &[u8]) -> Register
     ensures { λ r. ⌜ cells r ≡ padTo 64 (now (s .entry)) ⌝ }
 {
     Register {
-        w0: word::load_word(s, 0),
-        w1: word::load_word(s, 8),
-        w2: word::load_word(s, 16),
-        w3: word::load_word(s, 24),
-        w4: word::load_word(s, 32),
-        w5: word::load_word(s, 40),
-        w6: word::load_word(s, 48),
-        w7: word::load_word(s, 56),
+        w0: words::load_word(s, 0),
+        w1: words::load_word(s, 8),
+        w2: words::load_word(s, 16),
+        w3: words::load_word(s, 24),
+        w4: words::load_word(s, 32),
+        w5: words::load_word(s, 40),
+        w6: words::load_word(s, 48),
+        w7: words::load_word(s, 56),
     }
 }
 
@@ -229,7 +228,7 @@ pub fn low_cells(x: Register) -> [u8; 64]
     let mut out = [0u8; 64];
     let mut i: usize = 0;
     while i < 64 {
-        out[i] = word::cell_at(w[i / 8], i % 8);
+        out[i] = words::cell_at(w[i / 8], i % 8);
         i += 1;
     }
     out
@@ -292,27 +291,27 @@ pub fn extent(x: Register) -> usize
     ensures { λ r. ⌜ r ≡ extent (cells x) ⌝ }
 {
     if x.w7 != 0 {
-        return 56 + word::word_extent(x.w7);
+        return 56 + words::word_extent(x.w7);
     }
     if x.w6 != 0 {
-        return 48 + word::word_extent(x.w6);
+        return 48 + words::word_extent(x.w6);
     }
     if x.w5 != 0 {
-        return 40 + word::word_extent(x.w5);
+        return 40 + words::word_extent(x.w5);
     }
     if x.w4 != 0 {
-        return 32 + word::word_extent(x.w4);
+        return 32 + words::word_extent(x.w4);
     }
     if x.w3 != 0 {
-        return 24 + word::word_extent(x.w3);
+        return 24 + words::word_extent(x.w3);
     }
     if x.w2 != 0 {
-        return 16 + word::word_extent(x.w2);
+        return 16 + words::word_extent(x.w2);
     }
     if x.w1 != 0 {
-        return 8 + word::word_extent(x.w1);
+        return 8 + words::word_extent(x.w1);
     }
-    word::word_extent(x.w0)
+    words::word_extent(x.w0)
 }
 
 /// Whether all cells are zero.
@@ -326,16 +325,16 @@ pub fn is_zero(x: Register) -> bool
 pub fn scale(a: u8, x: Register) -> Register
     ensures { λ r. ⌜ cells r ≡ pscale a (cells x) ⌝ }
 {
-    let d = word::doubles_of(a);
+    let d = words::doubles_of(a);
     Register {
-        w0: word::word_scale(d, x.w0),
-        w1: word::word_scale(d, x.w1),
-        w2: word::word_scale(d, x.w2),
-        w3: word::word_scale(d, x.w3),
-        w4: word::word_scale(d, x.w4),
-        w5: word::word_scale(d, x.w5),
-        w6: word::word_scale(d, x.w6),
-        w7: word::word_scale(d, x.w7),
+        w0: words::word_scale(d, x.w0),
+        w1: words::word_scale(d, x.w1),
+        w2: words::word_scale(d, x.w2),
+        w3: words::word_scale(d, x.w3),
+        w4: words::word_scale(d, x.w4),
+        w5: words::word_scale(d, x.w5),
+        w6: words::word_scale(d, x.w6),
+        w7: words::word_scale(d, x.w7),
     }
 }
 
@@ -344,14 +343,14 @@ fn with_root(d: Doubles, g: Register) -> Register
     ensures { λ r. ⌜ ((a : ℕ) → DoublesOf a d → cells r ≡ padd (cells g) (pscale a (shiftDown (cells g) 1))) ⌝ }
 {
     Register {
-        w0: word::word_root(d, g.w0, g.w1),
-        w1: word::word_root(d, g.w1, g.w2),
-        w2: word::word_root(d, g.w2, g.w3),
-        w3: word::word_root(d, g.w3, g.w4),
-        w4: word::word_root(d, g.w4, g.w5),
-        w5: word::word_root(d, g.w5, g.w6),
-        w6: word::word_root(d, g.w6, g.w7),
-        w7: word::word_root(d, g.w7, word::at_bottom(1)),
+        w0: words::word_root(d, g.w0, g.w1),
+        w1: words::word_root(d, g.w1, g.w2),
+        w2: words::word_root(d, g.w2, g.w3),
+        w3: words::word_root(d, g.w3, g.w4),
+        w4: words::word_root(d, g.w4, g.w5),
+        w5: words::word_root(d, g.w5, g.w6),
+        w6: words::word_root(d, g.w6, g.w7),
+        w7: words::word_root(d, g.w7, words::at_bottom(1)),
     }
 }
 
@@ -361,12 +360,12 @@ pub fn generator_top(b: usize, r: usize) -> Register
 {
     let n = clamp(r);
     let mut g = blank();
-    let mut d = word::doubles_of(field::alpha_power(b));
+    let mut d = words::doubles_of(field::alpha_power(b));
     let mut i: usize = 0;
     while i < n {
         let next = with_root(d, g);
         g = next;
-        let twofold = word::next_doubles(d);
+        let twofold = words::next_doubles(d);
         d = twofold;
         i += 1;
     }

@@ -1,6 +1,7 @@
 -- The cells of eight zero words compute to zeros.
 use mathlib.Core.Path.{refl}
-use Rattle.register.specs.Words.{cells, byte}
+use Rattle.words.specs.Word.{byte}
+use Rattle.register.specs.Words.{cells}
 use Rattle.register.proofs.blank.Statement.{statement}
 use Rattle.register.proofs.blank.Tie as tie
 

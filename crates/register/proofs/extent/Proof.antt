@@ -4,7 +4,7 @@ use mathlib.Core.List.{[], _∷_}
 use Prim.Native.Nat.{ℕ, _+_}
 use native.Mathlib.Omega.{arith}
 use Rattle.register.specs.Words.{cells}
-use Rattle.register.proofs.LastCell.{extent-words, extent-lowest}
+use Rattle.register.proofs.LastWord.{extent-words, extent-lowest}
 use Rattle.register.proofs.extent.Statement.{statement}
 use Rattle.register.proofs.extent.Tie as tie
 

@@ -1,12 +1,13 @@
 -- The invariant: the register holds the generator with i roots, but for its cell 1 on top, and d has the doubles of the next root.
-use mathlib.Core.Path.{_≡_}
+use mathlib.Core.Path.{_≡_, sym, subst}
 use Prim.Native.Nat.{ℕ, _+_, _-_, _≤_, min}
 use native.Mathlib.Omega.{arith}
 use lib.ListN.{take}
 use Rattle.field.specs.Field.{alpha}
 use Rattle.code.specs.Code.{generator}
+use Rattle.words.specs.Doubles.{DoublesOf}
+use Rattle.words.proofs.Bits.{next-doubles}
 use Rattle.register.specs.Words.{cells}
-use Rattle.register.specs.Doubles.{DoublesOf}
 use Rattle.register.specs.Register.{onTop}
 use Rattle.register.proofs.Generator.{top-none, top-more, first-root, next-root}
 use Rattle.register.proofs.generator_top.Statement.{statement}
@@ -53,7 +54,7 @@ loop-again c =
     let first : ℕ = c .before .before .before .before .before .before .before .before .args .b in (
       omega arith,
       l .inv .1,
-      next-root first (l .i) _ (c .next-doubles .ensures _ (l .inv .2)),
+      next-root first (l .i) _ (subst (DoublesOf _) (sym (c .next-doubles .ensures)) (next-doubles _ _ (l .inv .2))),
       top-more first (l .i) _ _ (omega arith) (l .inv .3) (c .before .with-root .ensures _ (l .inv .2)),
     )
 

@@ -26,7 +26,7 @@ array-read-cell-at : tie.Need-array-read-cell-at Inv-loop μ-loop
 array-read-cell-at c = omega arith
 
 cell-at-requires : tie.Need-cell-at-requires Inv-loop μ-loop
-cell-at-requires c κs = omega arith
+cell-at-requires c κs = tt
 
 array-write-out : tie.Need-array-write-out Inv-loop μ-loop
 array-write-out c = omega arith

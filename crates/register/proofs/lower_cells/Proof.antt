@@ -3,8 +3,8 @@ use mathlib.Core.Path.{_≡_}
 use Prim.Native.Nat.{_-_, _≤_}
 use native.Mathlib.Omega.{arith}
 use lib.ListN.{drop}
+use Rattle.words.specs.Cells.{padTo}
 use Rattle.register.specs.Words.{cells}
-use Rattle.register.specs.Register.{padTo}
 use Rattle.register.proofs.Cells.{cells-length}
 use Rattle.register.proofs.Moves.{lower-none, lower-more}
 use Rattle.register.proofs.lower_cells.Statement.{statement}

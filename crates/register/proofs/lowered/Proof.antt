@@ -2,8 +2,8 @@
 use mathlib.Core.Path.{ap, _∙_}
 use Prim.Native.Nat.{ℕ, _-_}
 use lib.ListN.{drop}
+use Rattle.words.specs.Cells.{padTo}
 use Rattle.register.specs.Words.{cells}
-use Rattle.register.specs.Register.{padTo}
 use Rattle.register.proofs.Moves.{lowered-law}
 use native.Mathlib.Omega.{arith}
 use Rattle.register.proofs.lowered.Statement.{statement}

@@ -1,8 +1,10 @@
 -- Each word takes the highest cell of the one before, the first one takes c.
 use mathlib.Core.Path.{_∙_, ap}
 use Prim.Native.Nat.{ℕ}
-use Rattle.register.specs.Words.{bytesFrom}
-use Rattle.register.specs.Register.{shiftUp}
+use Rattle.words.specs.Word.{bytesFrom}
+use Rattle.words.specs.Cells.{shiftUp}
+use native.Mathlib.Omega.{arith}
+use Rattle.words.proofs.Words.{top-cell}
 use Rattle.register.proofs.Cells.{cells-up}
 use Rattle.register.proofs.push_bottom.Statement.{statement}
 use Rattle.register.proofs.push_bottom.Tie as tie
@@ -36,7 +38,7 @@ word-up-requires-8 c κs = tt
 
 returns : tie.Need-returns
 returns c =
-    cells-up _ _ _ (c .before .before .before .before .before .before .before .word-up .ensures ∙ ap (λ (k : ℕ). shiftUp k (bytesFrom 8 0 (c .before .before .before .before .before .before .before .before .before .args .x .w0))) (c .before .before .before .before .before .before .before .before .at-top .ensures))
+    cells-up _ _ _ (c .before .before .before .before .before .before .before .word-up .ensures ∙ ap (λ (k : ℕ). shiftUp k (bytesFrom 8 0 (c .before .before .before .before .before .before .before .before .before .args .x .w0))) (top-cell _ _ (omega arith) (c .before .before .before .before .before .before .before .before .at-top .ensures)))
     (c .before .before .before .before .before .before .word-up2 .ensures)
     (c .before .before .before .before .before .word-up3 .ensures)
     (c .before .before .before .before .word-up4 .ensures)

@@ -1,7 +1,9 @@
 -- Each word takes the lowest cell of the next, the last one takes c.
 use mathlib.Core.Path.{_∙_, ap}
-use Rattle.register.specs.Words.{bytesFrom}
-use Rattle.register.specs.Register.{shiftDown}
+use Rattle.words.specs.Word.{bytesFrom}
+use Rattle.words.specs.Cells.{shiftDown}
+use native.Mathlib.Omega.{arith}
+use Rattle.words.proofs.Words.{bottom-cell}
 use Rattle.register.proofs.Cells.{cells-down}
 use Rattle.register.proofs.push_top.Statement.{statement}
 use Rattle.register.proofs.push_top.Tie as tie
@@ -42,7 +44,7 @@ returns c =
     (c .before .before .before .before .word-down5 .ensures)
     (c .before .before .before .word-down6 .ensures)
     (c .before .before .word-down7 .ensures)
-    (c .word-down8 .ensures ∙ ap (shiftDown (bytesFrom 8 0 (c .before .before .before .before .before .before .before .before .before .args .x .w7))) (c .before .at-bottom .ensures))
+    (c .word-down8 .ensures ∙ ap (shiftDown (bytesFrom 8 0 (c .before .before .before .before .before .before .before .before .before .args .x .w7))) (bottom-cell _ _ (omega arith) (c .before .at-bottom .ensures)))
 
 pub push-top-spec : {M : Type 1} → statement M
 push-top-spec =

@@ -1,4 +1,5 @@
 -- Word by word, with the doubles made once.
+use Rattle.words.proofs.Bits.{word-multiple}
 use Rattle.register.proofs.Cells.{cells-scaled}
 use Rattle.register.proofs.scale.Statement.{statement}
 use Rattle.register.proofs.scale.Tie as tie
@@ -33,7 +34,7 @@ word-scale-requires-8 c κs = tt
 returns : tie.Need-returns
 returns c =
     let d = c .before .before .before .before .before .before .before .before .doubles-of .ensures in
-    cells-scaled _ _ _ (c .before .before .before .before .before .before .before .word-scale .ensures _ d) (c .before .before .before .before .before .before .word-scale2 .ensures _ d) (c .before .before .before .before .before .word-scale3 .ensures _ d) (c .before .before .before .before .word-scale4 .ensures _ d) (c .before .before .before .word-scale5 .ensures _ d) (c .before .before .word-scale6 .ensures _ d) (c .before .word-scale7 .ensures _ d) (c .word-scale8 .ensures _ d)
+    cells-scaled _ _ _ (word-multiple _ _ d _ _ (c .before .before .before .before .before .before .before .word-scale .ensures)) (word-multiple _ _ d _ _ (c .before .before .before .before .before .before .word-scale2 .ensures)) (word-multiple _ _ d _ _ (c .before .before .before .before .before .word-scale3 .ensures)) (word-multiple _ _ d _ _ (c .before .before .before .before .word-scale4 .ensures)) (word-multiple _ _ d _ _ (c .before .before .before .word-scale5 .ensures)) (word-multiple _ _ d _ _ (c .before .before .word-scale6 .ensures)) (word-multiple _ _ d _ _ (c .before .word-scale7 .ensures)) (word-multiple _ _ d _ _ (c .word-scale8 .ensures))
 
 pub scale-spec : {M : Type 1} → statement M
 scale-spec = tie.close (tie.spec doubles-of-requires word-scale-requires word-scale-requires-2 word-scale-requires-3 word-scale-requires-4 word-scale-requires-5 word-scale-requires-6 word-scale-requires-7 word-scale-requires-8 returns)
