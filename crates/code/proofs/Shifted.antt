@@ -1,7 +1,7 @@
 -- What a run reaches. The shifted remainder R by s has y's syndromes, each divided by its power of α; an error within a run of at most
 -- r cells from s, moved down to cell 0, has the same syndromes as R and at most r cells, so by distance it is R.
 use mathlib.Core.Path.{_≡_, refl, sym, ap, ap₂, _∙_, subst}
-use mathlib.Core.Logic.{_≢_, _⊎_, inl, inr, ⊎-elim}
+use mathlib.Core.Logic.{_≢_, inl, inr, ⊎-elim}
 use mathlib.Core.Bool.{Bool, true, false}
 use mathlib.Core.List.{List, [], _∷_, _++_}
 use Prim.Native.Nat.{ℕ, zero, suc, _+_, _-_, _≤_, _<_, zero-le}

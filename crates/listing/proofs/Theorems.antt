@@ -6,12 +6,12 @@ use mathlib.Core.List.{List}
 use Prim.Native.Nat.{ℕ, _*_, _≤_, _<_}
 use native.Mathlib.Omega.{arith}
 use lib.Dec.{ltb, eqb}
-use lib.ListN.{length, getD, take, drop, length-replicate}
+use lib.ListN.{length, getD, take, drop}
 use borrow.Author.Tests.{eqb-true, eqb-false}
 use Rattle.lists.proofs.Test.{zero-or, true-or-false, true-false, pick-of}
 use Rattle.lists.specs.Bytes.{Bytes}
 use Rattle.lists.proofs.Bytes.{bytes-of, drop-bytes}
-use Rattle.profile.specs.Profile.{InRange, inRange, messageLength}
+use Rattle.profile.specs.Profile.{InRange, inRange}
 use Rattle.profile.specs.declared.Profile.{Profile}
 use Rattle.profile.proofs.Ranges.{in-range}
 use Rattle.sheet.specs.Sheet.{readAnswer, readPayload}

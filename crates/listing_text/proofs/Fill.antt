@@ -1,5 +1,5 @@
 -- Text in a buffer, piece after piece; digits; and what a buffer holds that was filled from its first byte on.
-use Prim.Native.Nat.{ℕ, zero, suc, _+_, _-_, _/_, _%_, _<_, _≤_, min}
+use Prim.Native.Nat.{ℕ, zero, suc, _+_, _/_, _%_, _<_, _≤_, min}
 use native.Mathlib.Omega.{arith}
 use native.Mathlib.Nat.{div-mul-le-self, mod-eq-of-lt, le-refl}
 use native.Mathlib.Numerals.{add-one}

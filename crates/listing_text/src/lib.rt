@@ -5,7 +5,7 @@ use plot::Cursor;
 use plot::Line;
 use plot::Step;
 ghost use mathlib.Core.Path.{_≡_};
-ghost use Prim.Native.Nat.{_+_, _*_, _-_, _≤_, _<_, _/_, _%_};
+ghost use Prim.Native.Nat.{_+_, _*_, _≤_, _<_, _/_, _%_};
 ghost use lib.ListN.{length, drop};
 ghost use Rattle.plot.specs.Grammar.{reading, Readable};
 ghost use Rattle.listing_text.specs.Text.{decimal, field, lineText, linesText, plotLines, refusalText, listingText};

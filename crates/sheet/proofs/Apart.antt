@@ -1,7 +1,7 @@
 -- Putting blocks and messages together and taking them apart again. Each law compares cell by cell, by the quotient and the remainder
 -- of a place.
 use mathlib.Core.Path.{_≡_, refl, sym, ap, ap₂, subst, _∙_}
-use mathlib.Core.Logic.{_⊎_, ⊎-elim}
+use mathlib.Core.Logic.{⊎-elim}
 use mathlib.Core.List.{List, _++_, append-nil}
 use Prim.Native.Nat.{ℕ, zero, suc, _+_, _*_, _-_, _/_, _%_, _<_, _≤_, zero-le, suc-le-suc}
 use native.Mathlib.Nat.{mul-comm, suc-mul, zero-mul, not-suc-le-zero, eq-or-lt-of-le}

@@ -2,7 +2,7 @@
 -- Each goes by recursion on the number of cells.
 use mathlib.Core.Path.{_≡_, refl, sym, ap, subst, _∙_}
 use mathlib.Core.List.{List, _∷_, _++_, append-assoc}
-use Prim.Native.Nat.{ℕ, zero, suc, _+_, _-_, _<_, _≤_}
+use Prim.Native.Nat.{ℕ, zero, suc, _+_, _<_, _≤_}
 use native.Mathlib.Nat.{not-suc-le-zero, le-of-suc-le-suc, suc-add, zero-add}
 use lib.ListN.{length, getD, take, drop, replicate}
 use lib.Seq.{ext-getD, drop-drop, take-at, drop-at, length-take-le}

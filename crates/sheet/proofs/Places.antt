@@ -1,7 +1,7 @@
 -- Where the cells of a block and the bytes of a message stand. Place i D + d with d < D has quotient i and remainder d by D, and lies
 -- within D × n cells where i < n.
 use mathlib.Core.Path.{_≡_, _∙_}
-use Prim.Native.Nat.{ℕ, zero, suc, _+_, _*_, _-_, _/_, _%_, _<_, _≤_}
+use Prim.Native.Nat.{ℕ, zero, suc, _+_, _*_, _/_, _%_, _<_, _≤_}
 use native.Mathlib.Nat.{suc-mul, mul-comm, mul-le-mul-right, mul-add-div-right, mul-add-mod-self-right, div-eq-of-lt, mod-eq-of-lt, div-lt-iff-lt-mul, mod-lt, div-add-mod', zero-mul}
 use native.Mathlib.Omega.{arith}
 

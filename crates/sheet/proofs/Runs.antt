@@ -1,7 +1,7 @@
 -- A run of a sheet meets each block in one run. Cell i of block d stands at i D + d, so the cells at or after sheet place a are those from
 -- (a + D − 1 − d)/D on; between two such bounds lie at most h cells where the sheet's run has at most D h.
 use mathlib.Core.Path.{_≡_}
-use mathlib.Core.Logic.{_⊎_, inl, inr, ⊎-elim}
+use mathlib.Core.Logic.{inl, inr, ⊎-elim}
 use Prim.Native.Nat.{ℕ, suc, _+_, _*_, _-_, _/_, _<_, _≤_}
 use native.Mathlib.Nat.{suc-mul, add-mul, mul-comm, le-div-iff-mul-le, div-lt-iff-lt-mul}
 use native.Mathlib.Omega.{arith}

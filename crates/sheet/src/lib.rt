@@ -1,6 +1,6 @@
 // The sheet of document 01: D interleaved blocks, written from a payload and read back with every block corrected.
 ghost use mathlib.Core.Path.{_≡_};
-ghost use Prim.Native.Nat.{_+_, _*_, _-_, _≤_, _<_};
+ghost use Prim.Native.Nat.{_+_, _*_, _≤_, _<_};
 ghost use lib.ListN.{length, replicate};
 ghost use Rattle.profile.specs.Profile.{InRange, messageLength};
 ghost use Rattle.block.specs.Block.{encode};
