@@ -1,3 +1,4 @@
 pub mod Cases
+pub mod OwnBuffers
 pub mod Theorems
 pub mod Refusals

@@ -8,20 +8,20 @@ use lib.ListN.{length, drop}
 use borrow.Author.Tests.{le-ltb}
 use Rattle.profile.specs.Profile.{InRange}
 use Rattle.profile.specs.declared.Profile.{Profile}
-use Rattle.sheet.specs.Sheet.{readAnswer, readPayload}
+use Rattle.sheet.specs.Sheet.{readPayload}
 use Rattle.sheet.specs.Numbers.{readingNumber, readingPlace}
 use Rattle.sheet.specs.Buffers.{Lent}
-use Rattle.sheet.specs.Theorems.{LowestRefused, AllWords, Results, ReadRefusals}
+use Rattle.sheet.specs.Theorems.{LowestRefused, AllWords}
 use Rattle.sheet.specs.declared.Reading.{Reading}
 use Rattle.sheet.specs.declared.Reading.the-variants.{Refused, Accepted}
-use Rattle.sheet.proofs.Theorems.{read-results, read-accepts}
-use Rattle.sheet.proofs.Refusals.{sheet-refusals}
+use Rattle.sheet.proofs.Theorems.{read-accepts}
 use Rattle.plot.specs.Grammar.{Parsed, Plots, Stopped, reading}
 use Rattle.plot.specs.Answers.{checkedOf}
 use Rattle.plot.specs.Numbers.{payloadNumber, payloadPlace}
 use Rattle.listing_text.specs.Text.{refusalText, listingText}
 use Rattle.listing.specs.Listing.{inputProfile, sheetAnswerText, scratchBuffer, payloadBuffer, sheetText, listed}
 use Rattle.listing.specs.Refusals.{SheetInput, messages, ListRefusals}
+use Rattle.listing.proofs.OwnBuffers.{answer, refusals, results}
 use Rattle.listing.proofs.Cases.{own-buffers, text-accepted, listed-short}
 
 -- ---- the text for a refusal
@@ -37,24 +37,15 @@ payload-text changed (Plots ps end) n = absurd (n refl)
 payload-text changed (Stopped r) n = refl
 
 module _ (p : Profile) (sheet : List ℕ) where
-  abbrev answer : Reading
-  answer = readAnswer p sheet (scratchBuffer p) (payloadBuffer p)
-
-  refused-text : (number place : ℕ) → readingNumber answer ≡ number → readingPlace answer ≡ place → number ≢ 0 → sheetText p sheet ≡ refusalText number place
+  refused-text : (number place : ℕ) → readingNumber (answer p sheet) ≡ number → readingPlace (answer p sheet) ≡ place → number ≢ 0 → sheetText p sheet ≡ refusalText number place
   unfolding sheetText
-  refused-text number place e f n = answer-text answer (readPayload p sheet (scratchBuffer p) (payloadBuffer p)) (λ z. n (sym e ∙ z)) ∙ ap₂ refusalText e f
-
-  refusals : ReadRefusals p sheet (scratchBuffer p) (payloadBuffer p)
-  refusals = sheet-refusals p .reads sheet (scratchBuffer p) (payloadBuffer p)
+  refused-text number place e f n = answer-text (answer p sheet) (readPayload p sheet (scratchBuffer p) (payloadBuffer p)) (λ z. n (sym e ∙ z)) ∙ ap₂ refusalText e f
 
   module _ (v : InRange p) (h : Lent p sheet (scratchBuffer p) (payloadBuffer p)) where
-    results : Results p sheet (scratchBuffer p) (payloadBuffer p)
-    results = read-results p sheet (scratchBuffer p) (payloadBuffer p) v h
-
     lowest-text : (d number : ℕ) → LowestRefused p sheet d number → sheetText p sheet ≡ refusalText number d
     lowest-text d number o =
         let n : number ≢ 0 = ⊎-elim (λ z q. let e : number ≡ 3 = z .0 in omega arith) (λ z q. let e : number ≡ 4 = z .0 in omega arith) (o .refused) in
-        let q = results .refused d number n .1 o in
+        let q = results p sheet v h .refused d number n .1 o in
         refused-text number d (q .0) (q .1) n
 
 -- ---- an input of five bytes and more

@@ -14,46 +14,37 @@ use Rattle.lists.proofs.Bytes.{bytes-of, drop-bytes}
 use Rattle.profile.specs.Profile.{InRange, inRange}
 use Rattle.profile.specs.declared.Profile.{Profile}
 use Rattle.profile.proofs.Ranges.{in-range}
-use Rattle.sheet.specs.Sheet.{readAnswer, readPayload}
+use Rattle.sheet.specs.Sheet.{readPayload}
 use Rattle.sheet.specs.Numbers.{refusalNumber, refusalPlace, readingNumber, readingPlace}
 use Rattle.sheet.specs.Buffers.{Lent}
-use Rattle.sheet.specs.Theorems.{Results, ReadRefusals}
 use Rattle.sheet.specs.declared.Reading.{Reading}
 use Rattle.sheet.specs.declared.Reading.the-variants.{Refused, Accepted}
 use Rattle.sheet.specs.declared.Refusal.{Refusal}
-use Rattle.sheet.proofs.Theorems.{read-results}
-use Rattle.sheet.proofs.Refusals.{sheet-refusals}
 use Rattle.sheet.proofs.Accepted.{payload-back, changed-most}
 use Rattle.listing_text.specs.Buffer.{textIn, textLength}
 use Rattle.listing_text.proofs.Fill.{fill-whole}
 use Rattle.listing_text.proofs.Lengths.{refusal-length, listing-length}
 use Rattle.listing.specs.Listing.{inputProfile, scratchBuffer, payloadBuffer, sheetText, listed}
 use Rattle.listing.specs.Theorems.{longestText, TextFits, WholeText}
+use Rattle.listing.proofs.OwnBuffers.{answer, refusals, results}
 use Rattle.listing.proofs.Cases.{number-small, text-refused, text-accepted, own-buffers}
 
 module _ (p : Profile) (sheet : List ℕ) where
-  -- the reader's answer on the lister's own buffers
-  abbrev answer : Reading
-  answer = readAnswer p sheet (scratchBuffer p) (payloadBuffer p)
-
-  refused-fits : (r : Refusal) → answer ≡ Refused r → refusalPlace r ≤ 16 → length (sheetText p sheet) ≤ longestText
+  refused-fits : (r : Refusal) → (answer p sheet) ≡ Refused r → refusalPlace r ≤ 16 → length (sheetText p sheet) ≤ longestText
   refused-fits r q h =
       rw (sym (text-refused p sheet (scratchBuffer p) (payloadBuffer p) refl refl r (sym q)))
       (refusal-length (refusalNumber r) (refusalPlace r) (omega (arith, number-small r)) (omega arith))
 
   -- a sheet of D × n bytes under a profile in range
   module _ (v : InRange p) (h : Lent p sheet (scratchBuffer p) (payloadBuffer p)) where
-    results : Results p sheet (scratchBuffer p) (payloadBuffer p)
-    results = read-results p sheet (scratchBuffer p) (payloadBuffer p) v h
-
-    place-most : readingPlace answer ≤ 16
+    place-most : readingPlace (answer p sheet) ≤ 16
     place-most =
         ⊎-elim
-        (λ z. let w = results .accepted .0 z in let e : readingPlace answer ≡ 0 = results .accepts (w .0) (w .1) .place in omega arith)
-        (λ n. omega (arith, results .refused (readingPlace answer) (readingNumber answer) n .0 (refl, refl) .below, v .depth-most)) (zero-or (readingNumber answer))
+        (λ z. let w = results p sheet v h .accepted .0 z in let e : readingPlace (answer p sheet) ≡ 0 = results p sheet v h .accepts (w .0) (w .1) .place in omega arith)
+        (λ n. omega (arith, results p sheet v h .refused (readingPlace (answer p sheet)) (readingNumber (answer p sheet)) n .0 (refl, refl) .below, v .depth-most)) (zero-or (readingNumber (answer p sheet)))
 
-    answer-fits : (a : Reading) → answer ≡ a → length (sheetText p sheet) ≤ longestText
-    answer-fits (Refused r) q = refused-fits r q (let e : readingPlace answer ≡ refusalPlace r = ap readingPlace q in omega (arith, place-most))
+    answer-fits : (a : Reading) → (answer p sheet) ≡ a → length (sheetText p sheet) ≤ longestText
+    answer-fits (Refused r) q = refused-fits r q (let e : readingPlace (answer p sheet) ≡ refusalPlace r = ap readingPlace q in omega (arith, place-most))
     answer-fits (Accepted changed) q =
         let back = readPayload p sheet (scratchBuffer p) (payloadBuffer p) in
         let bytes = payload-back p sheet (scratchBuffer p) (payloadBuffer p) v h changed q .bytes in
@@ -62,22 +53,19 @@ module _ (p : Profile) (sheet : List ℕ) where
         (listing-length changed back (omega (arith, v .depth-most)) bytes)
 
   -- refusals 1 and 2
-  refusals : ReadRefusals p sheet (scratchBuffer p) (payloadBuffer p)
-  refusals = sheet-refusals p .reads sheet (scratchBuffer p) (payloadBuffer p)
-
-  early-fits : (a : Reading) → answer ≡ a → (readingNumber answer ≡ 1) ⊎ (readingNumber answer ≡ 2) → length (sheetText p sheet) ≤ longestText
-  early-fits (Refused r) q e = refused-fits r q (let z : readingPlace answer ≡ 0 = refusals .place e in let k : readingPlace answer ≡ refusalPlace r = ap readingPlace q in omega arith)
-  early-fits (Accepted changed) q e = let z : readingNumber answer ≡ 0 = ap readingNumber q in absurd (⊎-elim (λ o. omega arith) (λ o. omega arith) e)
+  early-fits : (a : Reading) → (answer p sheet) ≡ a → (readingNumber (answer p sheet) ≡ 1) ⊎ (readingNumber (answer p sheet) ≡ 2) → length (sheetText p sheet) ≤ longestText
+  early-fits (Refused r) q e = refused-fits r q (let z : readingPlace (answer p sheet) ≡ 0 = refusals p sheet .place e in let k : readingPlace (answer p sheet) ≡ refusalPlace r = ap readingPlace q in omega arith)
+  early-fits (Accepted changed) q e = let z : readingNumber (answer p sheet) ≡ 0 = ap readingNumber q in absurd (⊎-elim (λ o. omega arith) (λ o. omega arith) e)
 
   -- any sheet of bytes under any profile
   sheet-fits : Bytes sheet → length (sheetText p sheet) ≤ longestText
   sheet-fits b =
-      ⊎-elim (λ t. by-length (in-range p .0 t)) (λ f. early-fits answer refl (inl (refusals .early .one .1 (λ v. true-false (in-range p .1 v) f)))) (true-or-false (inRange p))
+      ⊎-elim (λ t. by-length (in-range p .0 t)) (λ f. early-fits (answer p sheet) refl (inl (refusals p sheet .early .one .1 (λ v. true-false (in-range p .1 v) f)))) (true-or-false (inRange p))
     where
       by-length : InRange p → length (sheetText p sheet) ≤ longestText
       by-length v =
-          ⊎-elim (λ t. answer-fits v (own-buffers p sheet (record { count = eqb-true _ _ t; bytes = b })) answer refl)
-          (λ f. early-fits answer refl (inr (refusals .early .two .1 (v, λ e. eqb-false _ _ f (e .0)))))
+          ⊎-elim (λ t. answer-fits v (own-buffers p sheet (record { count = eqb-true _ _ t; bytes = b })) (answer p sheet) refl)
+          (λ f. early-fits (answer p sheet) refl (inr (refusals p sheet .early .two .1 (v, λ e. eqb-false _ _ f (e .0)))))
           (true-or-false (eqb (length sheet) (p .depth * p .n)))
 
 pub text-fits : TextFits
