@@ -10,8 +10,11 @@ use Rattle.sheet.proofs.Theorems.{writes-sheet, read-results}
 use Rattle.sheet.proofs.Refusals.{sheet-refusals}
 use Rattle.sheet.proofs.Promise.{sheet-promise}
 use Rattle.demands.proofs.Examples.{starred-examples}
-use Rattle.plot.proofs.Canonical.{written-as-read, read-as-written, accepted-form, asked-is-record, asked-refused, added-is-found, refused-unchanged, full-exactly}
-use Rattle.plot.proofs.TooLong.{too-long}
+use Rattle.plot_promises.proofs.Lines.{lines-hold-iff}
+use Rattle.plot_promises.proofs.Canonical.{written-as-read, read-as-written, accepted-form, added-is-found}
+use Rattle.plot_promises.proofs.Checking.{checking-exactly}
+use Rattle.plot_promises.proofs.Asking.{asking-exactly}
+use Rattle.plot_promises.proofs.Adding.{adding-exactly}
 use Rattle.plot.proofs.Sheets.{written-reads-as-plots, same-after-damage}
 use Rattle.listing.proofs.Refusals.{list-refusals}
 use Rattle.listing.proofs.Theorems.{whole-text}
@@ -22,9 +25,9 @@ demands = record {
   first = record {
     blocks = block-refusals;
     sheets = sheet-refusals;
-    payloads = too-long;
-    asking = asked-refused;
-    adding = refused-unchanged;
+    payloads = checking-exactly;
+    asking = asking-exactly;
+    adding = adding-exactly;
     listing = list-refusals;
   };
   second = record {
@@ -32,9 +35,8 @@ demands = record {
     clean = clean-iff;
     places = places;
     records = accepted-form;
-    asking = asked-is-record;
+    lines = lines-hold-iff;
     adding = added-is-found;
-    full = full-exactly;
     plots = written-reads-as-plots;
     afresh = written-as-read;
   };

@@ -4,6 +4,7 @@ use mathlib.Core.Path.{_≡_}
 use mathlib.Core.List.{List}
 use Prim.Native.Nat.{ℕ, _*_, _≤_}
 use lib.ListN.{length}
+use Rattle.lists.specs.Bytes.{Bytes}
 use Rattle.field.specs.Laws.{FieldLaws, AlphaLaws}
 use Rattle.code.specs.Theorems.{CodewordIffSyndromes, MinimumDistance, LongRunReaches}
 use Rattle.profile.specs.Profile.{InRange, InRangeIff, half}
@@ -15,8 +16,10 @@ use Rattle.sheet.specs.Buffers.{Payload, Lent}
 use Rattle.sheet.specs.Theorems.{Places, TakenApart, DifferIff, WritesSheet, ReadResults, SheetRefusals}
 use Rattle.sheet.specs.Promise.{Damaged, ReadsBack}
 use Rattle.demands.specs.Examples.{StarredExamples}
-use Rattle.plot.specs.Canonical.{WrittenAsRead, ReadAsWritten, AcceptedForm, AskedIsRecord, AskedRefused, AddedIsFound, RefusedUnchanged, FullExactly}
-use Rattle.plot.specs.Refusals.{TooLong}
+use Rattle.plot.specs.Layout.{Plot}
+use Rattle.plot_promises.specs.Lines.{LinesHoldIff}
+use Rattle.plot_promises.specs.Canonical.{WrittenAsRead, ReadAsWritten, AcceptedForm, AddedIsFound}
+use Rattle.plot_promises.specs.Refusals.{CheckingExactly, AskingExactly, AddingExactly}
 use Rattle.plot.specs.Sheets.{WrittenReadsAsPlots, SameAfterDamage}
 use Rattle.listing.specs.Refusals.{ListRefusals}
 use Rattle.listing.specs.Theorems.{WholeText}
@@ -28,9 +31,9 @@ pub record Demand1 : Type 0 where
   -- ".. refuses faulty input itself with the numbers of document 01, and after a refusal each lent buffer holds what document 01 says."
   pub blocks : (p : Profile) → BlockRefusals p
   pub sheets : (p : Profile) → SheetRefusals p
-  pub payloads : (s : List ℕ) → TooLong s
-  pub asking : AskedRefused
-  pub adding : RefusedUnchanged
+  pub payloads : (s : List ℕ) → Bytes s → CheckingExactly s
+  pub asking : (n : ℕ) (s : List ℕ) → Bytes s → AskingExactly n s
+  pub adding : (p : Plot) (s : List ℕ) → AddingExactly p s
   pub listing : (input : List ℕ) → ListRefusals input
 
 -- 2.
@@ -39,12 +42,12 @@ pub record Demand2 : Type 0 where
   pub writing : WritesCodeword
   -- ".. a block is called clean exactly if all its syndromes are zero."
   pub clean : CleanIff
-  -- "Sheets and plot records follow document 01.": where cells and bytes of a sheet stand; an accepted payload is records, then zeros; asking, adding, full
+  -- "Sheets and plot records follow document 01.": where cells and bytes of a sheet stand; an accepted payload is records, then zeros, and lines hold where each
+  -- is in its ranges and above the one before; an added plot is found. What checking, asking and adding answer, accepted or refused, is in Demand1.
   pub places : (D : ℕ) → Places D
   pub records : AcceptedForm
-  pub asking : AskedIsRecord
+  pub lines : LinesHoldIff
   pub adding : AddedIsFound
-  pub full : FullExactly
   -- "A written sheet reads back as its plots, .."
   pub plots : WrittenReadsAsPlots
   -- ".. and every accepted payload is byte for byte what writing its plots afresh would give."

@@ -2,22 +2,22 @@
 use Prim.Native.Nat.{ℕ, zero, suc, zero-le, suc-le-suc, _+_, _*_, _/_, _%_, _^_, _<_, _≤_, min}
 use native.Mathlib.Omega.{arith}
 use native.Mathlib.Nat.{pow-suc, div-lt-iff-lt-mul}
-use mathlib.Core.Path.{_≡_, refl}
-use mathlib.Core.Bool.{true}
+use mathlib.Core.Path.{_≡_, refl, sym, subst}
 use mathlib.Core.List.{List, [], _∷_}
 use lib.ListN.{length, drop, length-append}
 use lib.Dec.{ltb, lit<}
 use borrow.Author.Tests.{lt-ltb}
 use Rattle.lists.specs.Bytes.{Bytes}
 use Rattle.lists.proofs.Test.{pick-of}
-use Rattle.plot.specs.Layout.{Plot, noLine, lineOf, lineHolds, linesHold, linesOf}
+use Rattle.plot.specs.Layout.{Plot, lineOf, linesOf}
+use Rattle.plot_promises.specs.Lines.{lineAt, InRanges}
 use Rattle.plot.specs.Grammar.{Parsed, Plots, Stopped, reading, longest}
 use Rattle.plot.specs.Numbers.{numberOf, placeOf}
-use Rattle.plot.specs.Canonical.{Rising}
+use Rattle.plot_promises.specs.Canonical.{Rising}
 use Rattle.plot.specs.declared.Line.{Line}
-use Rattle.plot.proofs.Sound.{pick-true}
-use Rattle.plot.proofs.Entries.{reading-sound}
-use Rattle.plot.proofs.Ranges.{InRanges, line-ranges, TwoBytes, lineCount, read-numbers, read-count, number-most, place-within}
+use Rattle.plot_promises.proofs.Lines.{line-after}
+use Rattle.plot_promises.proofs.Sound.{reading-sound}
+use Rattle.plot_promises.proofs.Ranges.{TwoBytes, lineCount, read-numbers, read-count, number-most, place-within}
 use Rattle.listing_text.specs.Text.{digits, decimal, field, comma, newline, lineText, linesText, plotsText, refusalText, listingText, longestText}
 
 -- a number
@@ -43,26 +43,28 @@ field-length d n end h = omega (arith, decimal-length d n h, length-append (deci
 line-length : (plot : ℕ) (line : Line) → plot < 65536 → InRanges line → length (lineText plot line) ≤ 17
 unfolding lineText
 line-length plot line h r =
+    let species : line .species ≤ 99 = r .species .1 in
+    let class : line .class ≤ 200 = r .class .1 in
+    let count : line .count ≤ 255 = r .count .1 in
     let a : length (field plot comma) ≤ 6 = field-length 4 plot comma (omega arith) in
     let b : length (field (line .species) comma) ≤ 3 = field-length 1 (line .species) comma (omega arith) in
     let c : length (field (line .class) comma) ≤ 4 = field-length 2 (line .class) comma (omega arith) in
     let d : length (field (line .count) newline) ≤ 4 = field-length 2 (line .count) newline (omega arith) in
     simp length-append (omega arith)
 
-lines-length : (plot k : ℕ) (before : Line) (s : List ℕ) → plot < 65536 → linesHold before k s ≡ true → length (linesText plot k s) ≤ k * 17
-unfolding linesText linesHold
-lines-length plot zero before s h e = zero-le
-lines-length plot (suc k) before s h e =
-    let t = pick-true (lineHolds before (lineOf s)) (linesHold (lineOf s) k (drop 3 s)) e in
-    let a : length (lineText plot (lineOf s)) ≤ 17 = line-length plot (lineOf s) h (line-ranges before (lineOf s) (t .0)) in
-    let i : length (linesText plot k (drop 3 s)) ≤ k * 17 = lines-length plot k (lineOf s) (drop 3 s) h (t .1) in
+lines-length : (plot k : ℕ) (s : List ℕ) → plot < 65536 → ((i : ℕ) → i < k → InRanges (lineAt s i)) → length (linesText plot k s) ≤ k * 17
+unfolding linesText
+lines-length plot zero s h r = zero-le
+lines-length plot (suc k) s h r =
+    let a : length (lineText plot (lineOf s)) ≤ 17 = line-length plot (lineOf s) h (r 0 (suc-le-suc zero-le)) in
+    let i : length (linesText plot k (drop 3 s)) ≤ k * 17 = lines-length plot k (drop 3 s) h (λ i l. subst InRanges (sym (line-after s i)) (r (suc i) (suc-le-suc l))) in
     simp length-append (omega arith)
 
 plots-length : (last : ℕ) (ps : List Plot) → Rising last ps → TwoBytes ps → length (plotsText ps) ≤ lineCount ps * 17
 unfolding plotsText
 plots-length last [] r b = zero-le
 plots-length last (p ∷ ps) r b =
-    let a : length (linesText (p .number) (linesOf p) (p .lines)) ≤ linesOf p * 17 = lines-length (p .number) (linesOf p) noLine (p .lines) (b .0) (r .0 .hold) in
+    let a : length (linesText (p .number) (linesOf p) (p .lines)) ≤ linesOf p * 17 = lines-length (p .number) (linesOf p) (p .lines) (b .0) (r .0 .hold .ranges) in
     let i : length (plotsText ps) ≤ lineCount ps * 17 = plots-length (p .number) ps (r .2) (b .1) in
     simp length-append (omega arith)
 

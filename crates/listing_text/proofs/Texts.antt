@@ -14,7 +14,7 @@ use Rattle.plot.specs.declared.Cursor.{Cursor}
 use Rattle.plot.specs.declared.Refusal.{Refusal}
 use Rattle.plot.specs.declared.Step.the-variants.{Record}
 use Rattle.plot.proofs.Cases.{bounds, past-header}
-use Rattle.plot.proofs.Sound.{lines-here, count-here}
+use Rattle.plot.proofs.Accepts.{lines-here, count-here}
 use Rattle.plot.proofs.Entries.{go}
 use Rattle.listing_text.specs.Text.{newline, field, header, mended, lineText, linesText, plotsText, plotLines, refusalText, listingText}
 

@@ -19,22 +19,22 @@ use Rattle.plot.specs.declared.Located.{Located}
 use Rattle.plot.specs.declared.Located.the-variants as located-as
 use Rattle.plot.specs.declared.Added.the-variants as added-as
 use Rattle.lists.proofs.Test.{pick-of}
-use Rattle.plot.specs.Layout.{Plot, recordLength, noLine, linesHold, linesOf, recordOf}
+use Rattle.plot.specs.Layout.{Plot, recordLength, noLine, linesHold, linesOf, recordOf, bytesOf}
 use Rattle.plot.specs.Grammar.{stepAt, Parsed, Plots, Stopped, readFrom, longest, reading}
 use Rattle.plot.specs.Answers.{lastNumber, checkedOf, checked, seek, locatedOf, located, partOf, linesFit, roomFor, addedOf, added, payloadAfter, payloadWith}
-use Rattle.plot.specs.Canonical.{bytesOf}
+use Rattle.plot.specs.Numbers.{locatedStart}
 use Rattle.plot.proofs.Cases.{pick-out, bounds}
-use Rattle.plot.proofs.Sound.{not-stopped, here, Accepts, accepts, length-here, Sound, sound}
+use Rattle.plot.proofs.Accepts.{not-stopped, here, Accepts, accepts, length-here, Lies, lies}
 
--- an accepted payload is short enough, and sound
+-- an accepted payload is short enough, and its records lie within it
 pub reading-reads : (s : List ℕ) (ps : List Plot) (end : ℕ) → reading s ≡ Plots ps end → (length s ≤ longest) × (readFrom (length s) 0 0 s ≡ Plots ps end)
 unfolding reading
 reading-reads s ps end q =
     let p = pick-out (ltb longest (length s)) _ _ _ q (λ z. not-stopped _ _ _ _ refl z) in
     (ltb-false _ _ (p .0), p .1)
 
-pub reading-sound : (s : List ℕ) (ps : List Plot) (end : ℕ) → reading s ≡ Plots ps end → Sound 0 0 s ps end
-reading-sound s ps end q = sound (length s) 0 0 s ps end (le-refl _) (reading-reads s ps end q .1)
+pub reading-lies : (s : List ℕ) (ps : List Plot) (end : ℕ) → reading s ≡ Plots ps end → Lies 0 s ps end
+reading-lies s ps end q = lies (length s) 0 0 s ps end (le-refl _) (reading-reads s ps end q .1)
 
 -- the check tells the reading
 checked-is : (last : ℕ) (q : Parsed) (c : Cursor) → checkedOf last q ≡ checked-as.Accepted c → (ps : List Plot) × (q ≡ Plots ps (c .at)) × (lastNumber last ps ≡ c .last)
@@ -114,7 +114,7 @@ within-seek n at size (p ∷ ps) h =
 within-read : (n : ℕ) (s : List ℕ) (q : Parsed) → reading s ≡ q → Within (length s) (locatedOf n q)
 unfolding locatedOf
 within-read n s (Plots ps end) e =
-    let i : length (bytesOf ps) ≤ length s = reading-sound s ps end e .fits in
+    let i : length (bytesOf ps) ≤ length s = reading-lies s ps end e .fits in
     within-seek n 0 (length s) ps (omega arith)
 within-read n s (Stopped r) e = tt
 
@@ -139,6 +139,17 @@ part-found l s start len e =
 pub part-refused : (l : Located) (s : List ℕ) (r : Refusal) → l ≡ located-as.Refused r → [] ≡ partOf l s
 unfolding partOf
 part-refused l s r e = rw e
+
+-- where it begins, in a payload whose first byte has the place o
+pub begins-found : (l : Located) (start len o : ℕ) → l ≡ located-as.At start len → start + o ≡ o + locatedStart l
+begins-found l start len o e =
+    let z : locatedStart l ≡ start = ap locatedStart e in
+    omega arith
+
+pub begins-refused : (l : Located) (r : Refusal) (o : ℕ) → l ≡ located-as.Refused r → o ≡ o + locatedStart l
+begins-refused l r o e =
+    let z : locatedStart l ≡ 0 = ap locatedStart e in
+    omega arith
 
 -- where a plot may be added: the checks in turn
 module _ (size end last : ℕ) (p : Plot) where
@@ -205,8 +216,8 @@ module _ (s : List ℕ) (p : Plot) (start : ℕ) where
       let same : added-as.At end ≡ added-as.At start = p5 .1 in
       let end-is : end ≡ start = cc same in
       let fit = pick-out (ltb 120 (length (p .lines))) _ _ _ (not-false _ (p1 .0)) (λ z. let y : _≡_ {A = ℕ} 0 1 = cc in omega arith) in
-      let j : length (bytesOf ps) ≤ length s = reading-sound s ps end q .fits in
-      let k : 0 + length (bytesOf ps) ≡ end = reading-sound s ps end q .ends in
+      let j : length (bytesOf ps) ≤ length s = reading-lies s ps end q .fits in
+      let k : 0 + length (bytesOf ps) ≡ end = reading-lies s ps end q .ends in
       let room : length (recordOf p) ≤ length s - end = ltb-false _ _ (p5 .0) in
       record {
         plots = ps;
@@ -252,6 +263,6 @@ added-stopped s p r e = rw e
 
 pub end-within : (s : List ℕ) (ps : List Plot) (end : ℕ) → reading s ≡ Plots ps end → end ≤ length s
 end-within s ps end q =
-    let j : length (bytesOf ps) ≤ length s = reading-sound s ps end q .fits in
-    let k : 0 + length (bytesOf ps) ≡ end = reading-sound s ps end q .ends in
+    let j : length (bytesOf ps) ≤ length s = reading-lies s ps end q .fits in
+    let k : 0 + length (bytesOf ps) ≡ end = reading-lies s ps end q .ends in
     omega arith

@@ -1,10 +1,5 @@
-pub mod Cases
 pub mod Lists
-pub mod Refusals
-pub mod Sound
+pub mod Cases
+pub mod Accepts
 pub mod Entries
-pub mod Complete
-pub mod Canonical
 pub mod Sheets
-pub mod Ranges
-pub mod TooLong

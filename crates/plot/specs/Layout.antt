@@ -75,3 +75,8 @@ headerOf number count = mark ++ (number % 256 ∷ number / 256 ∷ count ∷ [])
 -- the record as written, "mark to last line"
 abbrev pub recordOf : Plot → List ℕ
 recordOf p = headerOf (p .number) (linesOf p) ++ p .lines
+
+-- the records of plots, one after the other
+abbrev pub bytesOf : List Plot → List ℕ
+bytesOf [] = []
+bytesOf (p ∷ ps) = recordOf p ++ bytesOf ps

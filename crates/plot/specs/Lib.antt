@@ -2,6 +2,4 @@ pub mod Layout
 pub mod Grammar
 pub mod Answers
 pub mod Numbers
-pub mod Canonical
-pub mod Refusals
 pub mod Sheets

@@ -13,10 +13,11 @@ use tally::line_at;
 use tally::line_holds;
 use tally::lines_hold;
 ghost use mathlib.Core.Path.{_≡_};
-ghost use Prim.Native.Nat.{_≤_};
+ghost use Prim.Native.Nat.{_+_, _≤_};
 ghost use lib.ListN.{drop};
 ghost use Rattle.plot.specs.Grammar.{stepAt, reading, Readable};
 ghost use Rattle.plot.specs.Answers.{checked, located, asked, roomFor, added, payloadWith};
+ghost use Rattle.plot.specs.Numbers.{locatedStart};
 
 const LONGEST: usize = 4048;
 
@@ -182,6 +183,7 @@ pub fn locate(payload: &[u8], plot: u16) -> Located
 /// Asks for a plot: its record, mark to last line, as a part of the payload and not as a copy; empty after a refusal.
 pub fn ask<'a>(payload: &'a [u8], plot: u16) -> &'a [u8]
     ensures { λ r. ⌜ now r ≡ asked plot (now (payload .entry)) ⌝ }
+    ensures { λ r. ⌜ (r .ptr .0 ≡ payload .entry .ptr .0) × (r .ptr .1 ≡ payload .entry .ptr .1 + locatedStart (located plot (now (payload .entry)))) ⌝ }
 {
     match locate(payload, plot) {
         Located::At { start, len } => &payload[start..start + len],

@@ -9,7 +9,7 @@ use Rattle.plot.specs.declared.Step.the-variants.{Record}
 use Rattle.plot.specs.Layout.{Plot}
 use Rattle.plot.specs.Grammar.{stepAt, Plots, readFrom, reading}
 use Rattle.plot.proofs.Cases.{Bounds, bounds, read-end, read-refused}
-use Rattle.plot.proofs.Sound.{not-stopped}
+use Rattle.plot.proofs.Accepts.{not-stopped}
 use Rattle.plot.proofs.Entries.{reading-reads, no-plots, go, go-reads}
 use Rattle.listing_text.specs.Text.{plotsText, plotLines}
 use Rattle.listing_text.specs.Buffer.{buffer, putAll}

@@ -1,9 +1,9 @@
--- What is located lies within the payload; the part is taken there, or is empty.
+-- What is located lies within the payload; the part begins there, or is empty and begins where the payload does.
 use Prim.Native.Nat.{_+_, _≤_}
 use native.Mathlib.Omega.{arith}
-use mathlib.Core.Path.{sym, _∙_}
+use mathlib.Core.Path.{refl, sym, _∙_}
 use lib.ListN.{length}
-use Rattle.plot.proofs.Entries.{located-within, part-found, part-refused}
+use Rattle.plot.proofs.Entries.{located-within, part-found, part-refused, begins-found, begins-refused}
 use borrow.Author.Needs.{needs}
 use Rattle.plot.proofs.ask.Statement.{statement}
 use Rattle.plot.proofs.ask.Tie as tie
@@ -36,10 +36,14 @@ slice-aggregate-result : tie.Need-slice-aggregate-result
 slice-aggregate-result c = search needs
 
 returns : tie.Need-returns
-returns c = part-found _ _ _ _ (sym (c .before .before .before .before .locate .ensures) ∙ c .before .before .start .given .1)
+returns c =
+    let e = sym (c .before .before .before .before .locate .ensures) ∙ c .before .before .start .given .1 in
+    (part-found _ _ _ _ e, (refl, begins-found _ _ _ _ e))
 
 returns-2 : tie.Need-returns-2
-returns-2 c = part-refused _ (c .before .before .before .before .before .args .payload .now) _ (sym (c .before .before .before .locate .ensures) ∙ c .before .enum-told .given .1)
+returns-2 c =
+    let e = sym (c .before .before .before .locate .ensures) ∙ c .before .enum-told .given .1 in
+    (part-refused _ (c .before .before .before .before .before .args .payload .now) _ e, (refl, begins-refused _ _ _ e))
 
 pub ask-spec : {M : Type 1} → statement M
 ask-spec =

@@ -11,7 +11,7 @@ use Rattle.plot.specs.Layout.{Plot}
 use Rattle.plot.specs.Grammar.{stepAt, Plots, readFrom}
 use Rattle.plot.specs.Answers.{seek, located}
 use Rattle.plot.proofs.Cases.{Bounds, bounds, read-end, read-refused}
-use Rattle.plot.proofs.Sound.{not-stopped}
+use Rattle.plot.proofs.Accepts.{not-stopped}
 use Rattle.plot.proofs.Entries.{reading-reads, located-plots, seek-none, go, go-reads, go-here, go-on}
 use Rattle.plot.proofs.search.Statement.{statement}
 use Rattle.plot.proofs.search.Tie as tie

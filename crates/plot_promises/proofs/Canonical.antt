@@ -6,24 +6,28 @@ use native.Mathlib.Nat.{div-add-mod', mul-mod-left, sub-zero, add-zero, zero-add
 use mathlib.Core.Path.{_≡_, refl, sym, ap, subst, _∙_}
 use mathlib.Core.Bool.{Bool, true, false}
 use mathlib.Core.List.{List, [], _∷_, _++_, append-assoc, append-nil}
-use lib.ListN.{length, take, drop, replicate, length-append}
+use lib.ListN.{length, take, drop, replicate, length-append, length-replicate}
 use lib.Seq.{take-at, drop-append-add, append-snoc}
 use lib.Dec.{ltb, eqb}
 use borrow.Author.Tests.{eq-eqb, ne-eqb, ltb-true, ltb-false}
 use Rattle.plot.specs.declared.Located.{Located}
 use Rattle.plot.specs.declared.Located.the-variants as located-as
 use Rattle.plot.specs.declared.Added.{Added}
 use Rattle.plot.specs.declared.Added.the-variants as added-as
 use Rattle.lists.specs.Choice.{pick}
-use Rattle.plot.specs.Layout.{Plot, noLine, linesHold, linesOf, recordOf}
+use Rattle.lists.specs.Bytes.{Bytes}
+use Rattle.plot.specs.Layout.{Plot, linesOf, recordOf, bytesOf}
+use Rattle.plot_promises.specs.Lines.{LinesHold}
 use Rattle.plot.specs.Grammar.{Plots, longest, reading}
 use Rattle.plot.specs.Answers.{lastNumber, seek, located, partOf, asked, added, payloadAfter, payloadWith}
 use Rattle.plot.specs.Numbers.{numberOf, placeOf, locatedNumber, locatedStart, locatedLength, addedNumber, addedPlace, addedStart}
-use Rattle.plot.specs.Canonical.{Holds, Rising, bytesOf, payloadOf, AllAdded, NotAdded, addThen, addAll, WrittenAsRead, ReadAsWritten, AcceptedForm, FoundAt, AskedIsRecord, AskedRefused, AddedIsFound, RefusedUnchanged, FullExactly}
+use Rattle.plot_promises.specs.Canonical.{Holds, Rising, Contains, AllAdded, NotAdded, addThen, addAll, WrittenAsRead, ReadAsWritten, AcceptedForm, FoundAt, AddedIsFound}
 use Rattle.plot.proofs.Lists.{part-front, part-middle}
-use Rattle.plot.proofs.Complete.{payload-length, reading-complete}
-use Rattle.plot.proofs.Entries.{reading-reads, reading-sound, taken, added-plots, add-here, add-full, left-as-was, located-plots, part-refused, Within, within-seek}
-use Rattle.plot.proofs.Refusals.{number-some, located-refused, added-at, added-refused}
+use Rattle.plot_promises.proofs.Lines.{lines-hold-iff}
+use Rattle.plot_promises.proofs.Sound.{payloadOf, reading-sound}
+use Rattle.plot_promises.proofs.Complete.{payload-length, reading-complete}
+use Rattle.plot.proofs.Entries.{reading-reads, taken, added-plots, add-here, add-full, left-as-was, located-plots, part-refused, Within, within-seek}
+use Rattle.plot_promises.proofs.Refusals.{number-some, located-refused, added-at, added-refused}
 
 -- plots in a row
 pub bytes-append : (ps qs : List Plot) → bytesOf (ps ++ qs) ≡ bytesOf ps ++ bytesOf qs
@@ -40,7 +44,7 @@ rising-before : (last : ℕ) (ps qs : List Plot) → Rising last (ps ++ qs) → 
 rising-before last [] qs r = tt
 rising-before last (p ∷ ps) qs r = (r .0, r .1, rising-before (p .number) ps qs (r .2))
 
-rising-at : (last : ℕ) (ps : List Plot) (p : Plot) (qs : List Plot) → Rising last (ps ++ p ∷ qs) → Holds p × (lastNumber last ps < p .number)
+pub rising-at : (last : ℕ) (ps : List Plot) (p : Plot) (qs : List Plot) → Rising last (ps ++ p ∷ qs) → Holds p × (lastNumber last ps < p .number)
 rising-at last [] p qs r = (r .0, r .1)
 rising-at last (x ∷ ps) p qs r = rising-at (x .number) ps p qs (r .2)
 
@@ -49,7 +53,7 @@ rising-snoc last [] p r h l = (h, l, tt)
 rising-snoc last (x ∷ ps) p r h l = (r .0, r .1, rising-snoc (x .number) ps p (r .2) h l)
 
 -- what the checks of an added plot say is what holds of a plot
-pub holds-of : (p : Plot) → length (p .lines) ≤ 120 → length (p .lines) % 3 ≡ 0 → (p .number ≡ 0 → ⊥) → linesHold noLine (linesOf p) (p .lines) ≡ true → Holds p
+pub holds-of : (p : Plot) → length (p .lines) ≤ 120 → length (p .lines) % 3 ≡ 0 → (p .number ≡ 0 → ⊥) → LinesHold (linesOf p) (p .lines) → Holds p
 holds-of p s t n h =
     let d : linesOf p * 3 + length (p .lines) % 3 ≡ length (p .lines) = div-add-mod' (length (p .lines)) 3 in
     record { threes = omega arith; few = omega arith; some = n; hold = h }
@@ -91,7 +95,7 @@ module _ (size : ℕ) (ps : List Plot) (p : Plot) (r : Rising 0 (ps ++ p ∷ [])
       let h = rising-at 0 ps p [] r in
       let n : length before ≡ size = payload-length size ps less in
       let b : length (bytesOf ps) + length (recordOf p) ≤ size = room in
-      sym (add-here (length before) (length (bytesOf ps)) (lastNumber 0 ps) p (short-of p (h .0)) (thirds-of p (h .0)) (h .0 .some) (h .0 .hold) (h .1) (omega arith)
+      sym (add-here (length before) (length (bytesOf ps)) (lastNumber 0 ps) p (short-of p (h .0)) (thirds-of p (h .0)) (h .0 .some) (lines-hold-iff _ _ .1 (h .0 .hold)) (h .1) (omega arith)
       ∙ added-plots before p ps (length (bytesOf ps)) (lastNumber 0 ps) reads-before refl)
 
   pub write-one-more : payloadWith p before ≡ payloadOf size (ps ++ p ∷ [])
@@ -123,13 +127,38 @@ write-all size ps (p ∷ qs) r f l =
 no-bytes-yet : (size : ℕ) → replicate size 0 ≡ payloadOf size []
 no-bytes-yet size = ap (λ (n : ℕ). replicate n 0) (sym (sub-zero size))
 
+-- a payload that contains plots is the payload of its length of them, and the other way round
+module _ (s : List ℕ) (ps : List Plot) (c : Contains s ps) where
+  contains-length : length s ≡ length (bytesOf ps) + c .zeros
+  contains-length =
+      let z : length {A = ℕ} (replicate (c .zeros) 0) ≡ c .zeros = length-replicate (c .zeros) 0 in
+      ap length (c .form) ∙ length-append (bytesOf ps) (replicate (c .zeros) 0) ∙ ap (λ (n : ℕ). length (bytesOf ps) + n) z
+
+  pub contains-fits : length (bytesOf ps) ≤ length s
+  contains-fits = omega (arith, contains-length)
+
+  pub contains-form : s ≡ payloadOf (length s) ps
+  contains-form =
+      let z : c .zeros ≡ length s - length (bytesOf ps) = omega (arith, contains-length) in
+      c .form ∙ ap (λ (n : ℕ). bytesOf ps ++ replicate n 0) z
+
+  pub contains-reads : reading s ≡ Plots ps (length (bytesOf ps))
+  contains-reads = ap reading contains-form ∙ reading-complete (length s) ps contains-fits (c .short) (c .rising)
+
+pub contains-of : (size : ℕ) (ps : List Plot) → size ≤ longest → Rising 0 ps → length (bytesOf ps) ≤ size → Contains (payloadOf size ps) ps
+contains-of size ps l r f = record { short = rw (payload-length size ps f) l; rising = r; zeros = size - length (bytesOf ps); form = refl }
+
 pub written-as-read : WrittenAsRead
-written-as-read s ps end b q =
+written-as-read s ps c =
+    ap (addAll ps) (no-bytes-yet (length s)) ∙ write-all (length s) [] ps (c .rising) (contains-fits s ps c) (c .short) ∙ ap AllAdded (sym (contains-form s ps c))
+
+pub reading-contains : (s : List ℕ) (ps : List Plot) (end : ℕ) → Bytes s → reading s ≡ Plots ps end → Contains s ps
+reading-contains s ps end b q =
     let i = reading-sound s ps end q in
-    ap (addAll ps) (no-bytes-yet (length s)) ∙ write-all (length s) [] ps (i .rising) (i .fits) (reading-reads s ps end q .0) ∙ ap AllAdded (sym (i .form b))
+    subst (λ (t : List ℕ). Contains t ps) (sym (i .form b)) (contains-of (length s) ps (reading-reads s ps end q .0) (i .rising) (i .fits))
 
 -- an added plot makes the plots one more
-more-plots : (size : ℕ) (ps : List Plot) (p : Plot) (start : ℕ) → Rising 0 ps → length (bytesOf ps) ≤ size → size ≤ longest → added p (payloadOf size ps) ≡ added-as.At start
+pub more-plots : (size : ℕ) (ps : List Plot) (p : Plot) (start : ℕ) → Rising 0 ps → length (bytesOf ps) ≤ size → size ≤ longest → added p (payloadOf size ps) ≡ added-as.At start
     → Rising 0 (ps ++ p ∷ []) × (length (bytesOf (ps ++ p ∷ [])) ≤ size) × (start ≡ length (bytesOf ps))
 more-plots size ps p start r f l e =
     let t = taken (payloadOf size ps) p start e in
@@ -139,21 +168,20 @@ more-plots size ps p start r f l e =
     let n : length (payloadOf size ps) ≡ size = payload-length size ps f in
     let rise : lastNumber 0 ps < p .number = rw ps-is at (t .rise) in
     let space : start + length (recordOf p) ≤ length (payloadOf size ps) = t .space in
-    (rising-snoc 0 ps p r (holds-of p (t .short) (t .thirds) (t .some) (t .hold)) rise, omega (arith, size-snoc ps p), start-is)
+    (rising-snoc 0 ps p r (holds-of p (t .short) (t .thirds) (t .some) (lines-hold-iff _ _ .0 (t .hold))) rise, omega (arith, size-snoc ps p), start-is)
 
--- reading back what adding qs in turn has written after ps
+-- what adding qs in turn has written after ps
 abbrev ReadsOn : ℕ → List Plot → Type 0
 ReadsOn size qs =
     (ps : List Plot) (s : List ℕ) → Rising 0 ps → length (bytesOf ps) ≤ size → addAll qs (payloadOf size ps) ≡ AllAdded s
-    → reading s ≡ Plots (ps ++ qs) (length (bytesOf (ps ++ qs)))
+    → Contains s (ps ++ qs)
 
 read-more : (size : ℕ) (p : Plot) (qs ps : List Plot) (s : List ℕ) → size ≤ longest → ReadsOn size qs → Rising 0 ps → length (bytesOf ps) ≤ size
     → (a : Added) → added p (payloadOf size ps) ≡ a → addThen (addAll qs) a (payloadWith p (payloadOf size ps)) ≡ AllAdded s
-    → reading s ≡ Plots (ps ++ p ∷ qs) (length (bytesOf (ps ++ p ∷ qs)))
+    → Contains s (ps ++ p ∷ qs)
 read-more size p qs ps s l ih r f (added-as.At start) e h =
     let m = more-plots size ps p start r f l e in
-    ih (ps ++ p ∷ []) s (m .0) (m .1) (ap (addAll qs) (sym (write-one-more size ps p (m .0) (m .1) l)) ∙ h)
-    ∙ ap (λ (xs : List Plot). Plots xs (length (bytesOf xs))) (append-snoc ps p qs)
+    subst (Contains s) (append-snoc ps p qs) (ih (ps ++ p ∷ []) s (m .0) (m .1) (ap (addAll qs) (sym (write-one-more size ps p (m .0) (m .1) l)) ∙ h))
 read-more size p qs ps s l ih r f (added-as.Refused x) e h =
     let not-all : NotAdded (numberOf x) (placeOf x) ≡ AllAdded s = rw (ne-eqb (numberOf x) 0 (number-some x)) at h in
     absurd (let y : _≡_ {A = ℕ} 0 1 = cc not-all in omega arith)
@@ -162,22 +190,14 @@ read-all : (size : ℕ) (qs : List Plot) → size ≤ longest → ReadsOn size q
 unfolding addAll
 read-all size [] l ps s r f h =
     let e : payloadOf size ps ≡ s = cc h in
-    ap reading (sym e) ∙ reading-complete size ps f l r ∙ ap (λ (xs : List Plot). Plots xs (length (bytesOf xs))) (sym (append-nil ps))
+    subst (Contains s) (sym (append-nil ps)) (subst (λ (t : List ℕ). Contains t ps) e (contains-of size ps l r f))
 read-all size (p ∷ qs) l ps s r f h = read-more size p qs ps s l (read-all size qs l) r f (added p (payloadOf size ps)) refl h
 
 pub read-as-written : ReadAsWritten
 read-as-written size ps s l h = read-all size ps l [] s tt zero-le (ap (addAll ps) (sym (no-bytes-yet size)) ∙ h)
 
 pub accepted-form : AcceptedForm
-accepted-form s ps b l = (
-  (λ q. let i = reading-sound s ps (length (bytesOf ps)) q in (i .rising, i .fits, i .form b)),
-  (λ h. ap reading (h .2) ∙ reading-complete (length s) ps (h .1) l (h .0)),
-)
-
-pub refused-unchanged : RefusedUnchanged
-refused-unchanged s p h =
-    let r = added-refused (added p s) h in
-    sym (left-as-was s p (r .0) (r .1))
+accepted-form s ps b = (reading-contains s ps _ b, contains-reads s ps)
 
 -- the search for a plot among rising plots
 rising-under : (last : ℕ) (ps : List Plot) (p : Plot) (qs : List Plot) → Rising last (ps ++ p ∷ qs) → last < p .number
@@ -224,17 +244,6 @@ module _ (size : ℕ) (ps : List Plot) (p : Plot) (qs : List Plot) (r : Rising 0
   pub found-payload : FoundAt (p .number) (payloadOf size (ps ++ p ∷ qs)) (length (bytesOf ps)) (recordOf p)
   found-payload = record { number = ap locatedNumber located-payload; start = ap locatedStart located-payload; size = ap locatedLength located-payload; part = asked-payload }
 
-pub asked-is-record : AskedIsRecord
-asked-is-record s ps qs p end b q =
-    let i = reading-sound s (ps ++ p ∷ qs) end q in
-    let l = reading-reads s (ps ++ p ∷ qs) end q .0 in
-    subst (λ (t : List ℕ). FoundAt (p .number) t (length (bytesOf ps)) (recordOf p)) (sym (i .form b)) (found-payload (length s) ps p qs (i .rising) (i .fits) l)
-
-pub asked-refused : AskedRefused
-asked-refused s n h =
-    let r = located-refused (located n s) h in
-    (sym (part-refused (located n s) s (r .0) (r .1)), ap locatedStart (r .1), ap locatedLength (r .1))
-
 -- a part within common first bytes is common
 same-part : (found : Located) (x y z : List ℕ) → Within (length x) found → partOf found (x ++ y) ≡ partOf found (x ++ z)
 unfolding partOf
@@ -278,19 +287,3 @@ added-is-found s p b z =
         ap (asked n) new ∙ asked-other (length s) (t .plots) p (m .0) (m .1) l n h ∙ sym (ap (asked n) s-is),
       )),
     )
-
-pub full-exactly : FullExactly
-full-exactly s ps end p q h r =
-    let is = added-plots s p ps end (lastNumber 0 ps) q refl in (
-      (λ e. by-space (ltb (length s - end) (length (recordOf p))) refl (e .0)),
-      (λ k.
-          let a = sym (add-full (length s) end (lastNumber 0 ps) p (short-of p h) (thirds-of p h) (h .some) (h .hold) r (omega arith) ∙ is) in
-          (ap addedNumber a, ap addedPlace a)),
-    )
-  where
-    by-space : (t : Bool) → ltb (length s - end) (length (recordOf p)) ≡ t → addedNumber (added p s) ≡ 10 → length s - end < length (recordOf p)
-    by-space true g e = ltb-true _ _ g
-    by-space false g e =
-        let k : length (recordOf p) ≤ length s - end = ltb-false _ _ g in
-        let a = add-here (length s) end (lastNumber 0 ps) p (short-of p h) (thirds-of p h) (h .some) (h .hold) r (omega arith) ∙ added-plots s p ps end (lastNumber 0 ps) q refl in
-        absurd (let y : _≡_ {A = ℕ} 0 10 = ap addedNumber a ∙ e in omega arith)

@@ -1,0 +1,12 @@
+pub mod Lines
+pub mod Refusals
+pub mod Checks
+pub mod Place
+pub mod Turn
+pub mod Sound
+pub mod Complete
+pub mod Canonical
+pub mod Checking
+pub mod Asking
+pub mod Adding
+pub mod Ranges

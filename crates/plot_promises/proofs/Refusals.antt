@@ -1,0 +1,45 @@
+-- Which answers are refusals, told by the number: no refusal has the number 0. And what it is for an answer to be the refusal of a number at a place.
+use Prim.Native.Nat.{ℕ}
+use native.Mathlib.Omega.{arith}
+use mathlib.Core.Path.{_≡_, refl}
+use mathlib.Core.Logic.{_≢_}
+use Rattle.plot.specs.declared.Refusal.{Refusal}
+use Rattle.plot.specs.declared.Refusal.the-variants.{WrongLength, BadMark, CutShort, BadTally, PlotOrder, NoSuchPlot, Full}
+use Rattle.plot.specs.declared.Located.{Located}
+use Rattle.plot.specs.declared.Located.the-variants as located-as
+use Rattle.plot.specs.declared.Added.{Added}
+use Rattle.plot.specs.declared.Added.the-variants as added-as
+use Rattle.plot.specs.Numbers.{numberOf, placeOf, locatedNumber, addedNumber, addedStart}
+
+pub number-some : (r : Refusal) → numberOf r ≢ 0
+number-some WrongLength e = omega arith
+number-some (BadMark place) e = omega arith
+number-some (CutShort place) e = omega arith
+number-some (BadTally place) e = omega arith
+number-some (PlotOrder place) e = omega arith
+number-some NoSuchPlot e = omega arith
+number-some (Full place) e = omega arith
+
+pub located-refused : (a : Located) → locatedNumber a ≢ 0 → (r : Refusal) × (a ≡ located-as.Refused r)
+located-refused (located-as.At start len) h = absurd (h refl)
+located-refused (located-as.Refused r) h = (r, refl)
+
+pub added-at : (a : Added) → addedNumber a ≡ 0 → a ≡ added-as.At (addedStart a)
+added-at (added-as.At start) e = refl
+added-at (added-as.Refused r) e = absurd (number-some r e)
+
+pub added-refused : (a : Added) → addedNumber a ≢ 0 → (r : Refusal) × (a ≡ added-as.Refused r)
+added-refused (added-as.At start) h = absurd (h refl)
+added-refused (added-as.Refused r) h = (r, refl)
+
+pub record Refuses (at : ℕ) (r : Refusal) (number : ℕ) : Type 0 where
+  pub number-is : numberOf r ≡ number
+  pub place-is : placeOf r ≡ at
+
+-- an answer of the type A, in which refusals stand by `answer`
+module _ {A : Type 0} (answer : Refusal → A) (at : ℕ) where
+  abbrev pub AnswerRefuses : A → ℕ → Type 0
+  AnswerRefuses a number = (r : Refusal) × (a ≡ answer r) × Refuses at r number
+
+  pub refuse : (r : Refusal) → placeOf r ≡ at → AnswerRefuses (answer r) (numberOf r)
+  refuse r e = (r, refl, record { number-is = refl; place-is = e })

@@ -1,0 +1,4 @@
+pub mod Lines
+pub mod Checks
+pub mod Canonical
+pub mod Refusals

@@ -1,0 +1,86 @@
+-- What the entries on a payload answer, exactly when (R1 to R5, E3, E4), over plots, bytes and document 01's numbers: how a payload is checked, asking for a
+-- plot, and adding one. The answers are fixed by these: number, place and every value, both ways. proofs/Exactly.antt proves them.
+use mathlib.Core.Path.{_≡_}
+use mathlib.Core.Logic.{_↔_, _⊎_, _≢_}
+use mathlib.Core.List.{List, [], _∷_, _++_}
+use Prim.Native.Nat.{ℕ, _+_, _<_, _≤_}
+use lib.ListN.{length, getD}
+use Rattle.plot.specs.Layout.{Plot, recordOf, bytesOf}
+use Rattle.plot_promises.specs.Checks.{FirstFails, AllHold, FaultAt, addChecks}
+use Rattle.plot.specs.Answers.{lastNumber, checked, located, asked, added, payloadWith}
+use Rattle.plot.specs.Numbers.{payloadNumber, payloadPlace, payloadEnd, locatedNumber, locatedPlace, locatedStart, locatedLength, addedNumber, addedPlace, addedStart}
+use Rattle.plot_promises.specs.Canonical.{Rising, Contains}
+
+-- the records of plots that hold and rise, then, at `place`, bytes at which the check of this number is the first that fails
+pub record StopsAt (s : List ℕ) (number place : ℕ) : Type 0 where
+  pub short : length s ≤ 4048
+  pub plots : List Plot
+  pub rest : List ℕ
+  pub rising : Rising 0 plots
+  pub form : s ≡ bytesOf plots ++ rest
+  pub begins : place ≡ length (bytesOf plots)
+  pub fault : FaultAt (lastNumber 0 plots) rest number
+
+-- a payload that is refused: 2 at place 0 if it "exceeds 4,048 bytes", before all others; else by "the first failing check of the first failing record"
+abbrev pub RefusedAs : List ℕ → ℕ → ℕ → Type 0
+RefusedAs s number place = ((4048 < length s) × (number ≡ 2) × (place ≡ 0)) ⊎ StopsAt s number place
+
+-- the check of a payload: accepted, with the byte after the last record, or refused
+pub record CheckingExactly (s : List ℕ) : Type 0 where
+  pub accepted : (end : ℕ) → ((payloadNumber (checked s) ≡ 0) × (payloadEnd (checked s) ≡ end)) ↔ ((plots : List Plot) × Contains s plots × (end ≡ length (bytesOf plots)))
+  pub refused : (number place : ℕ) → number ≢ 0 → ((payloadNumber (checked s) ≡ number) × (payloadPlace (checked s) ≡ place)) ↔ RefusedAs s number place
+
+-- the record of plot n begins at `start` in the payload s and is `bytes`
+pub record RecordAt (n : ℕ) (s : List ℕ) (start : ℕ) (bytes : List ℕ) : Type 0 where
+  pub before : List Plot
+  pub plot : Plot
+  pub after : List Plot
+  pub contains : Contains s (before ++ plot ∷ after)
+  pub number : plot .number ≡ n
+  pub begins : start ≡ length (bytesOf before)
+  pub is : bytes ≡ recordOf plot
+
+-- no plot of s has the number n: "payload accepted, plot absent (number 0 included)"
+pub record Absent (n : ℕ) (s : List ℕ) : Type 0 where
+  pub plots : List Plot
+  pub contains : Contains s plots
+  pub none : (before : List Plot) (p : Plot) (after : List Plot) → plots ≡ before ++ p ∷ after → p .number ≢ n
+
+-- asking for plot n, and its companion
+pub record AskingExactly (n : ℕ) (s : List ℕ) : Type 0 where
+  -- "the record, mark to last line, as a part of the caller's payload"
+  pub found : (start : ℕ) (bytes : List ℕ)
+      → ((locatedNumber (located n s) ≡ 0) × (locatedStart (located n s) ≡ start) × (locatedLength (located n s) ≡ length bytes) × (asked n s ≡ bytes)) ↔ RecordAt n s start bytes
+  -- 9, "no such plot", at place 0
+  pub absent : ((locatedNumber (located n s) ≡ 9) × (locatedPlace (located n s) ≡ 0)) ↔ Absent n s
+  pub zero : payloadNumber (checked s) ≡ 0 → n ≡ 0 → locatedNumber (located n s) ≡ 9
+  -- else as the payload itself is refused
+  pub refused : (number place : ℕ) → number ≢ 0 → number ≢ 9
+      → ((locatedNumber (located n s) ≡ number) × (locatedPlace (located n s) ≡ place)) ↔ ((payloadNumber (checked s) ≡ number) × (payloadPlace (checked s) ≡ place))
+  -- "After a refusal that part is empty"
+  pub empty : locatedNumber (located n s) ≢ 0 → (asked n s ≡ []) × (locatedStart (located n s) ≡ 0) × (locatedLength (located n s) ≡ 0)
+
+-- adding the plot p to a payload that holds these plots
+module _ (p : Plot) (s : List ℕ) (plots : List Plot) where
+  -- "the result is the record's first byte", or the would-be first byte is the place: both are the byte after the last record, "at byte 0 if there is none"
+  abbrev pub addedAt : ℕ
+  addedAt = length (bytesOf plots)
+
+  pub record AddingTo : Type 0 where
+    pub refused : (number place : ℕ) → number ≢ 0
+        → ((addedNumber (added p s) ≡ number) × (addedPlace (added p s) ≡ place)) ↔ (FirstFails (addChecks (length s) addedAt (lastNumber 0 plots) p) number × (place ≡ addedAt))
+    pub accepted : (start : ℕ) → ((addedNumber (added p s) ≡ 0) × (addedStart (added p s) ≡ start)) ↔ (AllHold (addChecks (length s) addedAt (lastNumber 0 plots) p) × (start ≡ addedAt))
+    -- "It writes the record right after the last record .."
+    pub written : addedNumber (added p s) ≡ 0 → Contains (payloadWith p s) (plots ++ p ∷ [])
+    -- ".. and changes no other byte"
+    pub others : (i : ℕ) → (i < addedAt) ⊎ (addedAt + length (recordOf p) ≤ i) → getD (payloadWith p s) i 0 ≡ getD s i 0
+    pub size : length (payloadWith p s) ≡ length s
+
+-- adding a plot
+pub record AddingExactly (p : Plot) (s : List ℕ) : Type 0 where
+  -- "Adding a plot checks the payload": its own refusal
+  pub payload : payloadNumber (checked s) ≢ 0 → (addedNumber (added p s) ≡ payloadNumber (checked s)) × (addedPlace (added p s) ≡ payloadPlace (checked s))
+  -- then the plot
+  pub plot : (plots : List Plot) → Contains s plots → AddingTo p s plots
+  -- E4: "Every lent buffer is unchanged"
+  pub unchanged : addedNumber (added p s) ≢ 0 → payloadWith p s ≡ s
