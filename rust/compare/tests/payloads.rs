@@ -112,3 +112,27 @@ fn every_value_of_a_byte() {
         }
     }
 }
+
+/// Two records cut at every byte, or with zeros up to 4,048 bytes and past it, asked for plots that they hold and for absent ones.
+#[test]
+fn asks_at_every_cut_and_about_the_longest() {
+    let two = [
+        plot::record(7, &[3, 32, 2, 3, 33, 1]),
+        plot::record(258, &[99, 200, 255]),
+    ]
+    .concat();
+    for length in (0..=two.len()).chain(4047..=4050) {
+        let mut payload = two.clone();
+        payload.resize(length, 0);
+        let absent = (9, 0, 0, 0);
+        let due = match length {
+            0 => [absent; 4],
+            1..=10 => [(6, 0, 0, 0); 4],
+            11 => [(0, 0, 0, 11), absent, absent, absent],
+            12..=18 => [(6, 11, 0, 0); 4],
+            19..=4048 => [(0, 0, 0, 11), (0, 0, 11, 8), absent, absent],
+            _ => [(2, 0, 0, 0); 4],
+        };
+        assert_eq!([7, 258, 8, 0].map(|number| ask(&payload, number)), due, "{length}");
+    }
+}

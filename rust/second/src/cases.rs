@@ -225,6 +225,13 @@ pub fn asks() -> Vec<Ask> {
         (after_plot_7(&[0x50, 0x4C]), 7, Err((6, 8))),
         (after_plot_7(&record(8, &[0, 1, 1])), 7, Err((7, 8))),
         (after_plot_7(&record(8, &[0, 1, 1])), 0, Err((7, 8))),
+        (after_plot_7(&record(8, &[0, 1, 1])), 8, Err((7, 8))),
+        (plots(&[7, 7]), 9, Err((8, 8))),
+        (after_plot_7(&[0, 1]), 9, Err((5, 8))),
+        (after_plot_7(&[0x50, 0x4C]), 9, Err((6, 8))),
+        (after_plot_7(&record(8, &[0, 1, 1])), 9, Err((7, 8))),
+        (full(), 36, Err((9, 0))),
+        ([full(), vec![0]].concat(), 35, Err((2, 0))),
     ]
 }
 
