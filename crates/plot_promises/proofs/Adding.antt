@@ -11,19 +11,18 @@ use lib.Seq.{length-take-le, getD-take, getD-drop, getD-append-add}
 use lib.Dec.{ltb, eqb}
 use borrow.Author.Tests.{le-ltb, eq-eqb, ltb-true, ltb-false, eqb-true}
 use Rattle.lists.specs.Choice.{pick}
-use Rattle.lists.proofs.Test.{true-false, zero-or}
+use Rattle.lists.proofs.Test.{true-false}
 use Rattle.plot.specs.declared.Refusal.{Refusal}
 use Rattle.plot.specs.declared.Refusal.the-variants.{BadTally, PlotOrder, Full}
 use Rattle.plot.specs.declared.Added.{Added}
 use Rattle.plot.specs.declared.Added.the-variants.{At, Refused}
 use Rattle.plot.specs.Layout.{Plot, noLine, linesHold, linesOf, recordOf, bytesOf}
-use Rattle.plot_promises.specs.Lines.{LinesHold}
 use Rattle.plot_promises.specs.Checks.{Check, FirstFails, AllHold, addChecks}
-use Rattle.plot.specs.Answers.{lastNumber, checked, linesFit, roomFor, added, payloadAfter, payloadWith}
-use Rattle.plot.specs.Numbers.{numberOf, placeOf, payloadNumber, payloadPlace, addedNumber, addedPlace, addedStart}
+use Rattle.plot.specs.Answers.{lastNumber, linesFit, roomFor, added, payloadAfter, payloadWith}
+use Rattle.plot.specs.Numbers.{payloadNumber, payloadPlace, addedNumber, addedPlace, addedStart}
 use Rattle.plot_promises.specs.Canonical.{Contains}
 use Rattle.plot_promises.specs.Refusals.{AddingTo, AddingExactly}
-use Rattle.plot_promises.proofs.Checks.{first-one, not-both, Tested, unless-true, unless-most, unless-zero, checksOf, chosen}
+use Rattle.plot_promises.proofs.Checks.{first-one, not-both, Tested, unless-true, unless-most, unless-zero, chosen}
 use Rattle.plot_promises.proofs.Lines.{lines-hold-iff}
 use Rattle.plot_promises.proofs.Refusals.{Refuses, AnswerRefuses, refuse, number-some, added-at, added-refused}
 use Rattle.plot.proofs.Entries.{taken, added-plots, added-stopped, left-as-was}

@@ -5,26 +5,24 @@ use mathlib.Core.Logic.{_⊎_, _≢_, inl, inr, ⊎-elim}
 use mathlib.Core.List.{List, [], _∷_, _++_}
 use Prim.Native.Nat.{ℕ, _+_}
 use native.Mathlib.Omega.{arith}
-use native.Mathlib.Nat.{add-zero, zero-add}
-use lib.ListN.{length, length-append}
-use borrow.Author.Tests.{eq-eqb, ne-eqb, eqb-true, eqb-false}
+use lib.ListN.{length}
+use borrow.Author.Tests.{eqb-true, eqb-false}
 use lib.Dec.{eqb}
 use Rattle.lists.specs.Bytes.{Bytes}
 use Rattle.lists.proofs.Test.{true-or-false}
 use Rattle.plot.specs.declared.Refusal.{Refusal}
 use Rattle.plot.specs.declared.Refusal.the-variants.{NoSuchPlot}
-use Rattle.plot.specs.declared.Located.{Located}
 use Rattle.plot.specs.declared.Located.the-variants as located-as
 use Rattle.plot.specs.Layout.{Plot, recordOf, bytesOf}
 use Rattle.plot.specs.Grammar.{Parsed, Plots, Stopped, reading}
 use Rattle.plot.specs.Answers.{checked, seek, located, asked}
-use Rattle.plot.specs.Numbers.{numberOf, payloadNumber, payloadPlace, locatedNumber, locatedPlace, locatedStart, locatedLength}
+use Rattle.plot.specs.Numbers.{payloadNumber, payloadPlace, locatedNumber, locatedPlace, locatedStart, locatedLength}
 use Rattle.plot_promises.specs.Canonical.{Rising, Contains, FoundAt}
 use Rattle.plot_promises.specs.Refusals.{RecordAt, Absent, AskingExactly}
 use Rattle.plot_promises.proofs.Refusals.{number-some, located-refused}
 use Rattle.plot.proofs.Entries.{located-plots, located-stopped, part-refused}
 use Rattle.plot_promises.proofs.Canonical.{contains-fits, contains-form, contains-reads, reading-contains, rising-at, found-payload}
-use Rattle.plot_promises.proofs.Checking.{checks-plots, checks-stopped, plots-of, stopped-of, stopped-number}
+use Rattle.plot_promises.proofs.Checking.{checks-stopped, stopped-of, stopped-number}
 
 -- the search among plots: the first that has the number, or none has it
 pub record Found (n : ℕ) (ps : List Plot) : Type 0 where

@@ -4,12 +4,11 @@ use Prim.Native.Nat.{ℕ, zero, suc, zero-le, _+_, _*_, _-_, _%_, _<_, _≤_}
 use native.Mathlib.Omega.{arith}
 use native.Mathlib.Nat.{div-add-mod', mul-mod-left, sub-zero, add-zero, zero-add}
 use mathlib.Core.Path.{_≡_, refl, sym, ap, subst, _∙_}
-use mathlib.Core.Bool.{Bool, true, false}
 use mathlib.Core.List.{List, [], _∷_, _++_, append-assoc, append-nil}
 use lib.ListN.{length, take, drop, replicate, length-append, length-replicate}
 use lib.Seq.{take-at, drop-append-add, append-snoc}
-use lib.Dec.{ltb, eqb}
-use borrow.Author.Tests.{eq-eqb, ne-eqb, ltb-true, ltb-false}
+use lib.Dec.{eqb}
+use borrow.Author.Tests.{eq-eqb, ne-eqb}
 use Rattle.plot.specs.declared.Located.{Located}
 use Rattle.plot.specs.declared.Located.the-variants as located-as
 use Rattle.plot.specs.declared.Added.{Added}
@@ -20,14 +19,14 @@ use Rattle.plot.specs.Layout.{Plot, linesOf, recordOf, bytesOf}
 use Rattle.plot_promises.specs.Lines.{LinesHold}
 use Rattle.plot.specs.Grammar.{Plots, longest, reading}
 use Rattle.plot.specs.Answers.{lastNumber, seek, located, partOf, asked, added, payloadAfter, payloadWith}
-use Rattle.plot.specs.Numbers.{numberOf, placeOf, locatedNumber, locatedStart, locatedLength, addedNumber, addedPlace, addedStart}
+use Rattle.plot.specs.Numbers.{numberOf, placeOf, locatedNumber, locatedStart, locatedLength, addedStart}
 use Rattle.plot_promises.specs.Canonical.{Holds, Rising, Contains, AllAdded, NotAdded, addThen, addAll, WrittenAsRead, ReadAsWritten, AcceptedForm, FoundAt, AddedIsFound}
 use Rattle.plot.proofs.Lists.{part-front, part-middle}
 use Rattle.plot_promises.proofs.Lines.{lines-hold-iff}
 use Rattle.plot_promises.proofs.Sound.{payloadOf, reading-sound}
 use Rattle.plot_promises.proofs.Complete.{payload-length, reading-complete}
-use Rattle.plot.proofs.Entries.{reading-reads, taken, added-plots, add-here, add-full, left-as-was, located-plots, part-refused, Within, within-seek}
-use Rattle.plot_promises.proofs.Refusals.{number-some, located-refused, added-at, added-refused}
+use Rattle.plot.proofs.Entries.{reading-reads, taken, added-plots, add-here, located-plots, Within, within-seek}
+use Rattle.plot_promises.proofs.Refusals.{number-some, added-at}
 
 -- plots in a row
 pub bytes-append : (ps qs : List Plot) → bytesOf (ps ++ qs) ≡ bytesOf ps ++ bytesOf qs

@@ -15,11 +15,10 @@ use Rattle.plot.specs.declared.Refusal.the-variants.{WrongLength}
 use Rattle.plot.specs.declared.Checked.the-variants as checked-as
 use Rattle.plot.specs.Layout.{Plot, bytesOf}
 use Rattle.plot_promises.specs.Checks.{FaultAt, inZeros, inRecord, recordChecks}
-use Rattle.plot.specs.Grammar.{Parsed, Plots, Stopped, reading, readFrom, longest}
+use Rattle.plot.specs.Grammar.{Parsed, Plots, Stopped, reading, longest}
 use Rattle.plot.specs.Answers.{lastNumber, checkedOf, checked}
 use Rattle.plot.specs.Numbers.{numberOf, placeOf, payloadNumber, payloadPlace, payloadEnd}
-use Rattle.plot_promises.specs.Canonical.{Contains}
-use Rattle.plot_promises.specs.Refusals.{StopsAt, RefusedAs, CheckingExactly}
+use Rattle.plot_promises.specs.Refusals.{RefusedAs, CheckingExactly}
 use Rattle.plot.proofs.Cases.{reading-short}
 use Rattle.plot_promises.proofs.Checks.{first-of}
 use Rattle.plot_promises.proofs.Refusals.{number-some}

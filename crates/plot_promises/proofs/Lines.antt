@@ -1,7 +1,7 @@
 -- The test of the lines in turn is what specs/Lines.antt says of every line and of every two neighbours. By induction on the number of lines: the
 -- lines after the first are the lines of the bytes after the first three.
 use mathlib.Core.Path.{_≡_, refl, sym, ap, subst, _∙_}
-use mathlib.Core.Logic.{_↔_, _⊎_, inl, inr, ⊎-elim}
+use mathlib.Core.Logic.{_↔_, inl, inr, ⊎-elim}
 use mathlib.Core.Bool.{Bool, true, false, not}
 use mathlib.Core.List.{List}
 use Prim.Native.Nat.{ℕ, zero, suc, zero-le, suc-le-suc, _+_, _*_, _<_, _≤_}
@@ -12,7 +12,7 @@ use lib.Seq.{drop-drop}
 use lib.Dec.{ltb, leb, eqb}
 use borrow.Author.Tests.{le-ltb, lt-ltb, le-leb, eq-eqb, ltb-true, ltb-false, leb-true, eqb-true}
 use Rattle.lists.specs.Choice.{pick}
-use Rattle.lists.proofs.Test.{true-or-false, true-false}
+use Rattle.lists.proofs.Test.{true-false}
 use Rattle.plot.specs.declared.Line.{Line}
 use Rattle.plot.specs.Layout.{lineOf, noLine, within, rises, lineHolds, linesHold}
 use Rattle.plot_promises.specs.Lines.{lineAt, InRanges, Above, LinesHold, LinesHoldIff}

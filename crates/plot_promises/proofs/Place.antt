@@ -1,15 +1,14 @@
 -- What stands at a place of the payload, by document 01's checks before the lines: zeros to the end, a fault, or a record that passes them all.
 -- Each test is the check that specs/Checks.antt states, so that the choice by tests is the first check that fails.
-use mathlib.Core.Path.{_≡_, refl, sym, _∙_}
-use mathlib.Core.Logic.{_↔_, _≢_, inl, inr, ⊎-elim}
-use mathlib.Core.Bool.{Bool, true, false}
-use mathlib.Core.List.{List, [], _∷_, _++_}
-use Prim.Native.Nat.{ℕ, zero, suc, zero-le, suc-le-suc, _+_, _<_, _≤_}
+use mathlib.Core.Path.{_≡_, refl}
+use mathlib.Core.Logic.{_↔_, _≢_, ⊎-elim}
+use mathlib.Core.Bool.{true, false}
+use mathlib.Core.List.{List, [], _∷_}
+use Prim.Native.Nat.{ℕ, zero, suc, zero-le, suc-le-suc, _+_, _<_}
 use native.Mathlib.Nat.{not-suc-le-zero, le-of-suc-le-suc}
 use lib.ListN.{length, getD, drop}
 use lib.Dec.{eqb}
 use borrow.Author.Tests.{eq-eqb, ne-eqb, eqb-true, eqb-false}
-use Rattle.lists.specs.Choice.{pick}
 use Rattle.lists.proofs.Test.{true-or-false, true-false}
 use Rattle.plot.specs.declared.Refusal.{Refusal}
 use Rattle.plot.specs.declared.Refusal.the-variants.{BadMark, CutShort, BadTally}
@@ -17,11 +16,11 @@ use Rattle.plot.specs.declared.Step.{Step}
 use Rattle.plot.specs.declared.Step.the-variants.{Record, End, Refused}
 use Rattle.plot.specs.Layout.{mark, headerLength, plotOf, countOf, recordLength}
 use Rattle.plot_promises.specs.Lines.{LinesHold}
-use Rattle.plot_promises.specs.Checks.{Check, _unless_, AllHold, Marked, recordChecks, Zeros, FaultAt, inZeros, inRecord}
+use Rattle.plot_promises.specs.Checks.{Check, _unless_, AllHold, Marked, Zeros, FaultAt, inZeros, inRecord}
 use Rattle.plot.specs.Grammar.{allZero, agree, headAt, stepAt}
 use Rattle.plot.specs.Numbers.{numberOf, placeOf}
 use Rattle.plot_promises.proofs.Checks.{first-before, Tested, unless-true, unless-less, unless-zero, checksOf, chosen}
-use Rattle.plot_promises.proofs.Refusals.{Refuses, AnswerRefuses, refuse}
+use Rattle.plot_promises.proofs.Refusals.{AnswerRefuses, refuse}
 use Rattle.plot_promises.proofs.Lines.{pick-true}
 
 -- the mark, as far as both go

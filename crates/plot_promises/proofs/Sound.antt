@@ -1,26 +1,22 @@
 -- What a reading says of the payload: the records of plots that hold and rise stand from its first byte on, and then zeros, or a fault where it stopped.
 -- By induction on the steps of the reading, a record at a time.
-use Prim.Native.Nat.{ℕ, zero, suc, zero-le, suc-le-suc, _+_, _*_, _-_, _/_, _<_, _≤_}
+use Prim.Native.Nat.{ℕ, zero, suc, zero-le, suc-le-suc, _+_, _*_, _-_, _<_, _≤_}
 use native.Mathlib.Omega.{arith}
-use native.Mathlib.Nat.{not-suc-le-zero, le-refl, add-zero, mul-div-left}
+use native.Mathlib.Nat.{not-suc-le-zero, le-refl, add-zero}
 use mathlib.Core.Path.{_≡_, refl, sym, ap, subst, _∙_}
-use mathlib.Core.Bool.{Bool, true, false, not}
+use mathlib.Core.Bool.{Bool, true, false}
 use mathlib.Core.List.{List, [], _∷_, _++_, append-assoc}
 use lib.ListN.{length, take, drop, getD, replicate, length-append, length-drop, take-append-drop}
-use lib.Seq.{take-append-add, length-take-le, drop-drop}
-use lib.Dec.{leb, ltb, eqb, lit<}
-use borrow.Author.Tests.{leb-true, leb-false, eqb-true}
+use lib.Seq.{take-append-add, drop-drop}
 use Rattle.plot.specs.declared.Cursor.{Cursor}
 use Rattle.plot.specs.declared.Line.{Line}
 use Rattle.plot.specs.declared.Refusal.{Refusal}
-use Rattle.plot.specs.declared.Refusal.the-variants.{BadTally}
-use Rattle.plot.specs.declared.Step.{Step}
-use Rattle.plot.specs.declared.Step.the-variants.{Record, End, Refused}
+use Rattle.plot.specs.declared.Step.the-variants.{Record}
 use Rattle.lists.specs.Bytes.{Bytes}
 use Rattle.lists.specs.Choice.{pick}
 use Rattle.lists.proofs.Bytes.{getD-byte, drop-bytes}
-use Rattle.plot.specs.Layout.{Plot, mark, headerLength, plotOf, countOf, recordLength, noLine, lineHolds, linesHold, linesOf, recordOf, bytesOf}
-use Rattle.plot.specs.Grammar.{allZero, agree, stepAt, Parsed, Plots, Stopped, onto, readFrom, reading}
+use Rattle.plot.specs.Layout.{Plot, mark, headerLength, recordLength, noLine, lineHolds, linesHold, linesOf, recordOf, bytesOf}
+use Rattle.plot.specs.Grammar.{stepAt, Parsed, Plots, Stopped, onto, readFrom, reading}
 use Rattle.plot_promises.specs.Checks.{Zeros, FaultAt}
 use Rattle.plot.specs.Answers.{lastNumber}
 use Rattle.plot.specs.Numbers.{numberOf, placeOf}

@@ -1,5 +1,5 @@
 -- What the entries on a payload answer, exactly when (R1 to R5, E3, E4), over plots, bytes and document 01's numbers: how a payload is checked, asking for a
--- plot, and adding one. The answers are fixed by these: number, place and every value, both ways. proofs/Exactly.antt proves them.
+-- plot, and adding one. The answers are fixed by these: number, place and every value, both ways. proofs/Checking.antt, Asking.antt and Adding.antt prove them.
 use mathlib.Core.Path.{_≡_}
 use mathlib.Core.Logic.{_↔_, _⊎_, _≢_}
 use mathlib.Core.List.{List, [], _∷_, _++_}
