@@ -11,6 +11,10 @@ use Rattle.plot.specs.Answers.{lastNumber, checked, located, asked, added, payl
 use Rattle.plot.specs.Numbers.{payloadNumber, payloadPlace, payloadEnd, locatedNumber, locatedPlace, locatedStart, locatedLength, addedNumber, addedPlace, addedStart}
 use Rattle.plot_promises.specs.Canonical.{Rising, Contains}
 
+-- the byte after the last record, 0 if there is none
+abbrev pub endOf : List Plot → ℕ
+endOf plots = length (bytesOf plots)
+
 -- the records of plots that hold and rise, then, at `place`, bytes at which the check of this number is the first that fails
 pub record StopsAt (s : List ℕ) (number place : ℕ) : Type 0 where
   pub short : length s ≤ 4048
@@ -18,7 +22,7 @@ pub record StopsAt (s : List ℕ) (number place : ℕ) : Type 0 where
   pub rest : List ℕ
   pub rising : Rising 0 plots
   pub form : s ≡ bytesOf plots ++ rest
-  pub begins : place ≡ length (bytesOf plots)
+  pub begins : place ≡ endOf plots
   pub fault : FaultAt (lastNumber 0 plots) rest number
 
 -- a payload that is refused: 2 at place 0 if it "exceeds 4,048 bytes", before all others; else by "the first failing check of the first failing record"
@@ -27,7 +31,7 @@ RefusedAs s number place = ((4048 < length s) × (number ≡ 2) × (place ≡ 0)
 
 -- the check of a payload: accepted, with the byte after the last record, or refused
 pub record CheckingExactly (s : List ℕ) : Type 0 where
-  pub accepted : (end : ℕ) → ((payloadNumber (checked s) ≡ 0) × (payloadEnd (checked s) ≡ end)) ↔ ((plots : List Plot) × Contains s plots × (end ≡ length (bytesOf plots)))
+  pub accepted : (end : ℕ) → ((payloadNumber (checked s) ≡ 0) × (payloadEnd (checked s) ≡ end)) ↔ ((plots : List Plot) × Contains s plots × (end ≡ endOf plots))
   pub refused : (number place : ℕ) → number ≢ 0 → ((payloadNumber (checked s) ≡ number) × (payloadPlace (checked s) ≡ place)) ↔ RefusedAs s number place
 
 -- the record of plot n begins at `start` in the payload s and is `bytes`
@@ -37,7 +41,7 @@ pub record RecordAt (n : ℕ) (s : List ℕ) (start : ℕ) (bytes : List ℕ) : 
   pub after : List Plot
   pub contains : Contains s (before ++ plot ∷ after)
   pub number : plot .number ≡ n
-  pub begins : start ≡ length (bytesOf before)
+  pub begins : start ≡ endOf before
   pub is : bytes ≡ recordOf plot
 
 -- no plot of s has the number n: "payload accepted, plot absent (number 0 included)"
@@ -60,21 +64,16 @@ pub record AskingExactly (n : ℕ) (s : List ℕ) : Type 0 where
   -- "After a refusal that part is empty"
   pub empty : locatedNumber (located n s) ≢ 0 → (asked n s ≡ []) × (locatedStart (located n s) ≡ 0) × (locatedLength (located n s) ≡ 0)
 
--- adding the plot p to a payload that holds these plots
-module _ (p : Plot) (s : List ℕ) (plots : List Plot) where
-  -- "the result is the record's first byte", or the would-be first byte is the place: both are the byte after the last record, "at byte 0 if there is none"
-  abbrev pub addedAt : ℕ
-  addedAt = length (bytesOf plots)
-
-  pub record AddingTo : Type 0 where
-    pub refused : (number place : ℕ) → number ≢ 0
-        → ((addedNumber (added p s) ≡ number) × (addedPlace (added p s) ≡ place)) ↔ (FirstFails (addChecks (length s) addedAt (lastNumber 0 plots) p) number × (place ≡ addedAt))
-    pub accepted : (start : ℕ) → ((addedNumber (added p s) ≡ 0) × (addedStart (added p s) ≡ start)) ↔ (AllHold (addChecks (length s) addedAt (lastNumber 0 plots) p) × (start ≡ addedAt))
-    -- "It writes the record right after the last record .."
-    pub written : addedNumber (added p s) ≡ 0 → Contains (payloadWith p s) (plots ++ p ∷ [])
-    -- ".. and changes no other byte"
-    pub others : (i : ℕ) → (i < addedAt) ⊎ (addedAt + length (recordOf p) ≤ i) → getD (payloadWith p s) i 0 ≡ getD s i 0
-    pub size : length (payloadWith p s) ≡ length s
+-- adding the plot p to a payload that contains these plots: "the result is the record's first byte", and "the would-be first byte" is the place of a refusal
+pub record AddingTo (p : Plot) (s : List ℕ) (plots : List Plot) : Type 0 where
+  pub refused : (number place : ℕ) → number ≢ 0
+      → ((addedNumber (added p s) ≡ number) × (addedPlace (added p s) ≡ place)) ↔ (FirstFails (addChecks (length s) (endOf plots) (lastNumber 0 plots) p) number × (place ≡ endOf plots))
+  pub accepted : (start : ℕ) → ((addedNumber (added p s) ≡ 0) × (addedStart (added p s) ≡ start)) ↔ (AllHold (addChecks (length s) (endOf plots) (lastNumber 0 plots) p) × (start ≡ endOf plots))
+  -- "It writes the record right after the last record (at byte 0 if there is none) .."
+  pub written : addedNumber (added p s) ≡ 0 → Contains (payloadWith p s) (plots ++ p ∷ [])
+  -- ".. and changes no other byte"
+  pub others : (i : ℕ) → (i < endOf plots) ⊎ (endOf plots + length (recordOf p) ≤ i) → getD (payloadWith p s) i 0 ≡ getD s i 0
+  pub size : length (payloadWith p s) ≡ length s
 
 -- adding a plot
 pub record AddingExactly (p : Plot) (s : List ℕ) : Type 0 where
