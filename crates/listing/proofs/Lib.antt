@@ -3,3 +3,4 @@ pub mod OwnBuffers
 pub mod Theorems
 pub mod Refusals
 pub mod Input
+pub mod Accepted
