@@ -8,10 +8,10 @@ use lib.ListN.{length, drop}
 use borrow.Author.Tests.{le-ltb}
 use Rattle.profile.specs.Profile.{InRange}
 use Rattle.profile.specs.declared.Profile.{Profile}
-use Rattle.sheet.specs.Sheet.{readPayload}
+use Rattle.sheet.specs.Sheet.{readBlock, readPayload}
 use Rattle.sheet.specs.Numbers.{readingNumber, readingPlace}
 use Rattle.sheet.specs.Buffers.{Lent}
-use Rattle.sheet.specs.Theorems.{LowestRefused, AllWords}
+use Rattle.sheet.specs.Theorems.{LowestRefused, AllWords, differing}
 use Rattle.sheet.specs.declared.Reading.{Reading}
 use Rattle.sheet.specs.declared.Reading.the-variants.{Refused, Accepted}
 use Rattle.sheet.proofs.Theorems.{read-accepts}
@@ -61,13 +61,17 @@ module _ (input : List ℕ) where
   unfolding listed
   listed-rest l = rw (le-ltb (length input) 5 l)
 
-  payload-refused : SheetInput input → (words : ℕ → List ℕ) → AllWords p sheet words → (q : Parsed) → reading (messages input words) ≡ q → payloadNumber (checkedOf 0 q) ≢ 0
-      → listed input ≡ refusalText (payloadNumber (checkedOf 0 q)) (payloadPlace (checkedOf 0 q))
-  payload-refused h words a q e n =
+  -- all blocks have codewords: the text is that of the payload
+  pub listed-payload : SheetInput input → (words : ℕ → List ℕ) → AllWords p sheet words
+      → listed input ≡ listingText (differing (p .depth) words (readBlock p sheet)) (reading (messages input words))
+  listed-payload h words a =
       let lent : Lent p sheet (scratchBuffer p) (payloadBuffer p) = own-buffers p sheet (h .cells) in
       let t = read-accepts p sheet (scratchBuffer p) (payloadBuffer p) (h .ranges) lent words a in
       listed-rest (h .profile) ∙ sym (text-accepted p sheet (scratchBuffer p) (payloadBuffer p) refl refl _ (messages input words) (sym (t .0)) (sym (t .1 .payload)))
-      ∙ ap₂ listingText refl e ∙ payload-text _ q n
+
+  payload-refused : SheetInput input → (words : ℕ → List ℕ) → AllWords p sheet words → (q : Parsed) → reading (messages input words) ≡ q → payloadNumber (checkedOf 0 q) ≢ 0
+      → listed input ≡ refusalText (payloadNumber (checkedOf 0 q)) (payloadPlace (checkedOf 0 q))
+  payload-refused h words a q e n = listed-payload h words a ∙ ap₂ listingText refl e ∙ payload-text _ q n
 
 pub list-refusals : (input : List ℕ) → ListRefusals input
 list-refusals input = record {

@@ -1,16 +1,16 @@
 -- The theorems of specs/Theorems.antt. A sheet's refusal has a place of at most D; an accepted sheet gives a payload of bytes and at most D
 -- changed blocks; and the listing_text crate bounds the texts of these.
-use mathlib.Core.Path.{_≡_, refl, sym, ap, ap₂, _∙_}
+use mathlib.Core.Path.{_≡_, refl, sym, ap}
 use mathlib.Core.Logic.{_⊎_, inl, inr, ⊎-elim}
 use mathlib.Core.List.{List}
-use Prim.Native.Nat.{ℕ, _*_, _≤_, _<_}
+use Prim.Native.Nat.{ℕ, _*_, _≤_}
 use native.Mathlib.Omega.{arith}
 use lib.Dec.{ltb, eqb}
-use lib.ListN.{length, getD, take, drop}
+use lib.ListN.{length, drop}
 use borrow.Author.Tests.{eqb-true, eqb-false}
 use Rattle.lists.proofs.Test.{zero-or, true-or-false, true-false, pick-of}
 use Rattle.lists.specs.Bytes.{Bytes}
-use Rattle.lists.proofs.Bytes.{bytes-of, drop-bytes}
+use Rattle.lists.proofs.Bytes.{drop-bytes}
 use Rattle.profile.specs.Profile.{InRange, inRange}
 use Rattle.profile.specs.declared.Profile.{Profile}
 use Rattle.profile.proofs.Ranges.{in-range}
@@ -21,7 +21,6 @@ use Rattle.sheet.specs.declared.Reading.{Reading}
 use Rattle.sheet.specs.declared.Reading.the-variants.{Refused, Accepted}
 use Rattle.sheet.specs.declared.Refusal.{Refusal}
 use Rattle.sheet.proofs.Accepted.{payload-back, changed-most}
-use Rattle.listing_text.specs.Buffer.{textIn, textLength}
 use Rattle.listing_text.proofs.Fill.{fill-whole}
 use Rattle.listing_text.proofs.Lengths.{refusal-length, listing-length}
 use Rattle.listing.specs.Listing.{inputProfile, scratchBuffer, payloadBuffer, sheetText, listed}
@@ -76,10 +75,3 @@ text-fits input b =
 
 pub whole-text : WholeText
 whole-text input out b h = fill-whole (listed input) out (omega (arith, text-fits input b))
-
--- what `listing::list` answers and leaves in such a buffer
-pub list-whole : (input out left : List ℕ) (r : ℕ) → ((i : ℕ) → getD input i 0 < 256) → longestText ≤ length out
-    → (r ≡ textLength (listed input) out) × (left ≡ textIn (listed input) out) → (r ≤ length out) × (take r left ≡ listed input)
-list-whole input out left r b h e =
-    let w = whole-text input out (bytes-of input b) h in
-    (omega (arith, e .0), ap₂ take (e .0 ∙ w .0) (e .1) ∙ w .1)

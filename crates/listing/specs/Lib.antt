@@ -1,3 +1,4 @@
 pub mod Listing
 pub mod Theorems
 pub mod Refusals
+pub mod Accepted

@@ -1,3 +1,4 @@
 pub mod Fill
 pub mod Texts
 pub mod Lengths
+pub mod Meaning

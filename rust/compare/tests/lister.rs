@@ -6,7 +6,8 @@ use std::path::{Path, PathBuf};
 use std::process::{Command, Stdio};
 use std::time::Duration;
 
-use second::{cases, lister};
+use second::plot::record;
+use second::{cases, lister, sheet, Profile};
 
 fn top() -> PathBuf {
     Path::new(env!("CARGO_MANIFEST_DIR")).join("../..")
@@ -14,6 +15,11 @@ fn top() -> PathBuf {
 
 /// What the program writes to standard output when its input comes in pieces of so many bytes.
 fn run(input: &[u8], piece: usize) -> Vec<u8> {
+    run_pieces(input.chunks(piece))
+}
+
+/// The same for these pieces, of which there may be no end.
+fn run_pieces<'a>(pieces: impl Iterator<Item = &'a [u8]>) -> Vec<u8> {
     let program = top().join("target/bin/lister");
     let mut child = Command::new(&program)
         .stdin(Stdio::piped())
@@ -22,7 +28,7 @@ fn run(input: &[u8], piece: usize) -> Vec<u8> {
         .spawn()
         .unwrap_or_else(|error| panic!("{}: {error} (`rt check lister` makes it)", program.display()));
     let mut pipe = child.stdin.take().expect("standard input is a pipe");
-    for bytes in input.chunks(piece) {
+    for bytes in pieces {
         match pipe.write_all(bytes) {
             Ok(()) => std::thread::sleep(Duration::from_micros(20)),
             Err(error) => {
@@ -78,10 +84,45 @@ fn worked_inputs() {
     }
 }
 
-/// An input far past the longest sheet: the program answers without reading all of it.
+/// The input of the longest sheet, n=255 and D=16: a record of 40 lines for each of 32 plots.
+fn longest_input() -> Vec<u8> {
+    let numbers = [255, 2, 0, 1, 16];
+    let lines: Vec<u8> = (1..=40).flat_map(|class| [99, class, 255]).collect();
+    let mut payload: Vec<u8> = (0..32).flat_map(|plot| record(65_000 + plot, &lines)).collect();
+    payload.resize(16 * 253, 0);
+    let mut sheet = vec![0; 16 * 255];
+    sheet::write(&Profile::from(numbers.map(usize::from)), &payload, &mut sheet).expect("the profile is in range");
+    [&numbers[..], &sheet].concat()
+}
+
+/// The longest input is listed whole; one byte more, and it is refused for its length.
+#[test]
+fn longest_inputs() {
+    let input = longest_input();
+    assert_eq!(input.len(), 4_085);
+    let rows = (0..32).flat_map(|plot| (1..=40).map(move |class| format!("{},99,{class},255\n", 65_000 + plot)));
+    let text = format!("plot,species,class,count\n{}mended,0\n", rows.collect::<String>());
+    let longer = [&input[..], &[0]].concat();
+    for piece in [1, 2_046, 4_096] {
+        assert_eq!(String::from_utf8_lossy(&run(&input, piece)), text);
+        assert_eq!(String::from_utf8_lossy(&run(&longer, piece)), "refused,2,0\n");
+    }
+    agree(&input, 4_085);
+}
+
+/// What the program writes when zeros without end follow these bytes.
+fn endless(start: &[u8]) -> String {
+    let zeros = (0..).map(|pieces| {
+        assert!(pieces < 1_000, "it reads on and on");
+        &[0; 4_096][..]
+    });
+    String::from_utf8_lossy(&run_pieces(start.chunks(1).chain(zeros))).into()
+}
+
+/// An input that never ends: the program answers after it has read enough, and the pipe breaks.
 #[test]
 fn endless_input() {
-    let mut input = vec![255, 64, 1, 32, 16];
-    input.resize(1_000_000, 0);
-    agree(&input, 4096);
+    assert_eq!(endless(&longest_input()), "refused,2,0\n");
+    assert_eq!(endless(&[255, 64, 1, 32, 16]), "refused,2,0\n");
+    assert_eq!(endless(&[]), "refused,1,0\n");
 }

@@ -9,12 +9,6 @@ use Rattle.lister.proofs.list_input.Tie as tie
 read-full-requires : tie.Need-read-full-requires
 read-full-requires c κs = search needs
 
-slice-reshare-prefix-list-whole : tie.Need-slice-reshare-prefix-list-whole
-slice-reshare-prefix-list-whole c = search needs
-
-slice-aggregate-list-whole : tie.Need-slice-aggregate-list-whole
-slice-aggregate-list-whole c = search needs
-
 list-whole-requires : tie.Need-list-whole-requires
 list-whole-requires c κs = search needs
 
@@ -24,7 +18,7 @@ slice-reshare-prefix-write-all c = search needs
 slice-aggregate-write-all : tie.Need-slice-aggregate-write-all
 slice-aggregate-write-all c =
     let l = c .before .before .before .list-whole in
-    sym (length-take-le (l .result) (l .last .1 .0) (omega (arith, l .ensures .0, l .kept)))
+    sym (length-take-le (l .result) (l .last .1 .1 .0) (omega (arith, l .ensures .0, l .kept)))
 
 write-all-requires : tie.Need-write-all-requires
 write-all-requires c κs = search needs
@@ -43,8 +37,6 @@ list-input-spec =
     tie.close
     (tie.spec
     read-full-requires
-    slice-reshare-prefix-list-whole
-    slice-aggregate-list-whole
     list-whole-requires
     slice-reshare-prefix-write-all
     slice-aggregate-write-all

@@ -67,7 +67,7 @@ put-decimal-returns : (t : ℕ) → put-decimal-lts.Need-returns (
 ) (put-decimal-at t) put-decimal.Post
 put-decimal-returns t c =
     let s = c .before .before .before .before .before .before in
-    c .before .before .put .ensures ∙ put-one _ _ ∙ ap (λ l. putAll l (buffer (s .args .out .now) (s .args .at))) (sym (decimal-one (s .args .n) (c .before .before .before .before .if1 .taken)))
+    c .before .before .put .ensures ∙ put-one _ _ ∙ ap (λ l. putAll l (buffer (s .args .out .now) (s .args .at))) (sym (decimal-one (s .args .n) (omega (arith, c .before .before .before .before .if1 .taken))))
 
 put-decimal-put-decimal-requires : (t : ℕ) → put-decimal-lts.Need-put-decimal-requires (
   put-reads.Asked,
@@ -103,7 +103,7 @@ put-decimal-returns-2 t c =
     let s = c .before .before .before .before .before .before .before .before .before .before in
     let b = buffer (s .args .out .now) (s .args .at) in
     put-then _ _ b _ _ (c .before .before .before .before .before .before .put-decimal .ensures) (c .before .before .put2 .ensures ∙ put-one _ _)
-    ∙ ap (λ l. putAll l b) (sym (decimal-more (s .args .n) (c .before .before .before .before .before .before .before .before .if1 .left)))
+    ∙ ap (λ l. putAll l b) (sym (decimal-more (s .args .n) (omega (arith, c .before .before .before .before .before .before .before .before .if1 .left))))
 
 pub +put-decimal-spec : {M : Type 1} → statement M
 +put-decimal-spec = close μ-put-decimal λ t. put-decimal-lts.spec (
