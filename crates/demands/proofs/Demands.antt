@@ -16,8 +16,11 @@ use Rattle.plot_promises.proofs.Checking.{checking-exactly}
 use Rattle.plot_promises.proofs.Asking.{asking-exactly}
 use Rattle.plot_promises.proofs.Adding.{adding-exactly}
 use Rattle.plot.proofs.Sheets.{written-reads-as-plots, same-after-damage}
+use Rattle.listing_text.proofs.Meaning.{decimal-iff, one-reading, accepted-text, refusal-text}
 use Rattle.listing.proofs.Refusals.{list-refusals}
+use Rattle.listing.proofs.Accepted.{list-accepted}
 use Rattle.listing.proofs.Theorems.{whole-text}
+use Rattle.listing.proofs.Input.{enough-input}
 use Rattle.demands.specs.Demands.{Demands, Beside, AllPromises}
 
 pub demands : Demands
@@ -67,7 +70,13 @@ beside = record {
   untouched = λ p m cells scratch out v h c b. sheet-promise p m cells v h c .back scratch out b;
   read-as-written = read-as-written;
   examples = starred-examples;
+  printed = list-accepted;
+  lines = accepted-text;
+  refusal = refusal-text;
+  one-reading = one-reading;
+  decimals = decimal-iff;
   text = whole-text;
+  input = enough-input;
 }
 
 pub all-promises : AllPromises

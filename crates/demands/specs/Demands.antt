@@ -21,8 +21,10 @@ use Rattle.plot_promises.specs.Lines.{LinesHoldIff}
 use Rattle.plot_promises.specs.Canonical.{WrittenAsRead, ReadAsWritten, AcceptedForm, AddedIsFound}
 use Rattle.plot_promises.specs.Refusals.{CheckingExactly, AskingExactly, AddingExactly}
 use Rattle.plot.specs.Sheets.{WrittenReadsAsPlots, SameAfterDamage}
+use Rattle.listing_text.specs.Meaning.{DecimalIff, OneReading, AcceptedText, RefusalText}
 use Rattle.listing.specs.Refusals.{ListRefusals}
-use Rattle.listing.specs.Theorems.{WholeText}
+use Rattle.listing.specs.Accepted.{ListAccepted}
+use Rattle.listing.specs.Theorems.{WholeText, EnoughInput}
 
 -- 1. "So that any scan and any tally file can be fed in, every entry point ends with a result on every input, .."
 -- This holds by the language: a function that is proved returns, with no undefined step, on every input that its `requires` allows. The gate shows the rest:
@@ -108,8 +110,16 @@ pub record Beside : Type 0 where
   pub read-as-written : ReadAsWritten
   -- "The eleven starred examples are shown to follow from the definitions, gathered into a common table with a common theorem."
   pub examples : StarredExamples
-  -- the plot lister's text is never cut
+  -- "It prints .. a header, one line per tally line (plot, species, class, count), and the word `mended`, a comma and the number of blocks changed.": for each
+  -- sheet that is accepted; which lines a text has, and that it can be read in no other way; what a number in decimal is
+  pub printed : (input : List ℕ) → ListAccepted input
+  pub lines : (changed : ℕ) (plots : List Plot) → AcceptedText changed plots
+  pub refusal : (number place : ℕ) → RefusalText number place
+  pub one-reading : OneReading
+  pub decimals : DecimalIff
+  -- the plot lister's text is never cut, and the program's input buffer loses nothing
   pub text : WholeText
+  pub input : EnoughInput
 
 -- everything that is promised of the base, as one theorem
 pub record AllPromises : Type 0 where

@@ -7,14 +7,14 @@ use lib.ListN.{drop}
 use Rattle.sheet.specs.Sheet.{readBlock}
 use Rattle.sheet.specs.Theorems.{AllWords, differing}
 use Rattle.plot.specs.Layout.{Plot}
-use Rattle.plot.specs.Grammar.{Plots, reading}
+use Rattle.plot_promises.specs.Canonical.{Contains}
 use Rattle.listing_text.specs.Meaning.{inLines, answerLines}
 use Rattle.listing.specs.Listing.{inputProfile, listed}
 use Rattle.listing.specs.Refusals.{SheetInput, messages}
 
--- all blocks have codewords, and the payload of their message bytes holds these plots: "a header, one line per tally line .., and the word `mended`, a
+-- all blocks have codewords, and the payload of their message bytes contains these plots: "a header, one line per tally line .., and the word `mended`, a
 -- comma and the number of blocks changed", which are those whose codeword isn't the read block
 abbrev pub ListAccepted : List ℕ → Type 0
 ListAccepted input =
-    SheetInput input → (words : ℕ → List ℕ) → AllWords (inputProfile input) (drop 5 input) words → (ps : List Plot) (end : ℕ) → reading (messages input words) ≡ Plots ps end
+    SheetInput input → (words : ℕ → List ℕ) → AllWords (inputProfile input) (drop 5 input) words → (ps : List Plot) → Contains (messages input words) ps
     → listed input ≡ inLines (answerLines (differing (inputProfile input .depth) words (readBlock (inputProfile input) (drop 5 input))) ps)

@@ -9,13 +9,15 @@ use native.Mathlib.Nat.{le-refl, mod-lt, mod-eq-of-lt, div-mul-le-self, div-add-
 use native.Mathlib.Omega.{arith}
 use lib.Dec.{T, eqb, lit<}
 use lib.ListN.{length, getD, take, drop, length-append, List·getD-append, List·getD-eq-default}
-use lib.Seq.{take-all, take-suc, length-take-le, getD-append-seam, drop-drop, append-snoc}
+use lib.Seq.{take-all, take-suc, length-take-le, getD-append-seam, append-snoc}
 use Rattle.lists.specs.Choice.{both}
 use Rattle.lists.proofs.Test.{both-left, both-right, lt-or-ge}
 use Rattle.plot.specs.Layout.{Plot, lineOf, linesOf}
 use Rattle.plot.specs.Grammar.{Plots}
 use Rattle.plot.specs.Numbers.{numberOf, placeOf}
 use Rattle.plot.specs.declared.Line.{Line}
+use Rattle.plot_promises.specs.Lines.{lineAt}
+use Rattle.plot_promises.proofs.Lines.{line-after}
 use Rattle.listing_text.specs.Text.{decimal, field, newline, header, mended, lineText, linesText, plotsText, refusalText, listingText}
 use Rattle.listing_text.specs.Meaning.{valueOf, Decimal, DecimalIff, word, inLines, Unbroken, OneReading, tabulate, row, rowAt, rowsOf}
 use Rattle.listing_text.specs.Meaning.{changedLine, answerLines, refusalLine, AcceptedText, RefusalText, RefusedPayload}
@@ -194,7 +196,7 @@ unbroken-rows : (ps : List Plot) → Unbroken (flatMap rowsOf ps)
 unfolding flatMap
 unbroken-rows [] = λ i j e. omega arith
 unbroken-rows (p ∷ ps) =
-    unbroken-append (rowsOf p) (flatMap rowsOf ps) (unbroken-tabulate (linesOf p) (rowAt p) (λ i. plain-row (p .number) (lineOf (drop (i * 3) (p .lines)))))
+    unbroken-append (rowsOf p) (flatMap rowsOf ps) (unbroken-tabulate (linesOf p) (rowAt p) (λ i. plain-row (p .number) (lineAt (p .lines) i)))
     (unbroken-rows ps)
 
 -- ---- the texts as lines
@@ -208,13 +210,12 @@ line-is : (plot : ℕ) (line : Line) → lineText plot line ≡ row plot line ++
 unfolding lineText field
 line-is plot line = simp append-assoc
 
-lines-are : (plot k : ℕ) (s : List ℕ) → linesText plot k s ≡ inLines (tabulate k (λ (i : ℕ). row plot (lineOf (drop (i * 3) s))))
+lines-are : (plot k : ℕ) (s : List ℕ) → linesText plot k s ≡ inLines (tabulate k (λ (i : ℕ). row plot (lineAt s i)))
 unfolding linesText flatMap
 lines-are plot zero s = refl
 lines-are plot (suc k) s =
-    let next : (i : ℕ) → drop (i * 3) (drop 3 s) ≡ drop (suc i * 3) s = λ i. let e : 3 + i * 3 ≡ suc i * 3 = omega arith in drop-drop (i * 3) 3 s ∙ ap (λ (n : ℕ). drop n s) e in
     ap₂ (λ (t u : List ℕ). t ++ u) (line-is plot (lineOf s))
-    (lines-are plot k (drop 3 s) ∙ ap (λ (f : ℕ → List ℕ). inLines (tabulate k f)) (λ j i. ap (λ (r : List ℕ). row plot (lineOf r)) (next i) j))
+    (lines-are plot k (drop 3 s) ∙ ap (λ (f : ℕ → List ℕ). inLines (tabulate k f)) (λ j i. ap (row plot) (line-after s i) j))
 
 plots-are : (ps : List Plot) → plotsText ps ≡ inLines (flatMap rowsOf ps)
 unfolding plotsText flatMap

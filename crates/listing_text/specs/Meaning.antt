@@ -6,8 +6,9 @@ use mathlib.Core.List.{List, [], _∷_, _++_, foldl, foldr, flatMap}
 use Prim.Native.Nat.{ℕ, zero, suc, _+_, _*_, _-_, _≤_, _<_}
 use Prim.Native.Char.{code}
 use Prim.Native.String.{String, [] as none, _∷_ as _then_}
-use lib.ListN.{length, getD, drop}
-use Rattle.plot.specs.Layout.{Plot, lineOf, linesOf}
+use lib.ListN.{length, getD}
+use Rattle.plot.specs.Layout.{Plot, linesOf}
+use Rattle.plot_promises.specs.Lines.{lineAt}
 use Rattle.plot.specs.Grammar.{Plots, Stopped}
 use Rattle.plot.specs.Numbers.{numberOf, placeOf}
 use Rattle.plot.specs.declared.Line.{Line}
@@ -59,9 +60,9 @@ tabulate (suc n) f = f 0 ∷ tabulate n (λ (i : ℕ). f (suc i))
 abbrev pub row : ℕ → Line → List ℕ
 row plot line = decimal plot ++ 44 ∷ (decimal (line .species) ++ 44 ∷ (decimal (line .class) ++ 44 ∷ decimal (line .count)))
 
--- tally line i of a plot has the three bytes from 3 i on
+-- that of tally line i of a plot
 abbrev pub rowAt : Plot → ℕ → List ℕ
-rowAt p i = row (p .number) (lineOf (drop (i * 3) (p .lines)))
+rowAt p i = row (p .number) (lineAt (p .lines) i)
 
 -- "one line per tally line": those of a plot
 abbrev pub rowsOf : Plot → List (List ℕ)
