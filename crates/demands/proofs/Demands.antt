@@ -11,7 +11,7 @@ use Rattle.sheet.proofs.Refusals.{sheet-refusals}
 use Rattle.sheet.proofs.Promise.{sheet-promise}
 use Rattle.demands.proofs.Examples.{starred-examples}
 use Rattle.plot_promises.proofs.Lines.{lines-hold-iff}
-use Rattle.plot_promises.proofs.Canonical.{written-as-read, read-as-written, accepted-form, added-is-found}
+use Rattle.plot_promises.proofs.Canonical.{plots-unique, written-as-read, read-as-written, accepted-form, added-is-found}
 use Rattle.plot_promises.proofs.Checking.{checking-exactly}
 use Rattle.plot_promises.proofs.Asking.{asking-exactly}
 use Rattle.plot_promises.proofs.Adding.{adding-exactly}
@@ -38,6 +38,7 @@ demands = record {
     clean = clean-iff;
     places = places;
     records = accepted-form;
+    unique = plots-unique;
     lines = lines-hold-iff;
     adding = added-is-found;
     plots = written-reads-as-plots;

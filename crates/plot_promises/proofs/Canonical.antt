@@ -20,7 +20,7 @@ use Rattle.plot_promises.specs.Lines.{LinesHold}
 use Rattle.plot.specs.Grammar.{Plots, longest, reading}
 use Rattle.plot.specs.Answers.{lastNumber, seek, located, partOf, asked, added, payloadAfter, payloadWith}
 use Rattle.plot.specs.Numbers.{numberOf, placeOf, locatedNumber, locatedStart, locatedLength, addedStart}
-use Rattle.plot_promises.specs.Canonical.{Holds, Rising, Contains, AllAdded, NotAdded, addThen, addAll, WrittenAsRead, ReadAsWritten, AcceptedForm, FoundAt, AddedIsFound}
+use Rattle.plot_promises.specs.Canonical.{Holds, Rising, Contains, PlotsUnique, AllAdded, NotAdded, addThen, addAll, WrittenAsRead, ReadAsWritten, AcceptedForm, FoundAt, AddedIsFound}
 use Rattle.plot.proofs.Lists.{part-front, part-middle}
 use Rattle.plot_promises.proofs.Lines.{lines-hold-iff}
 use Rattle.plot_promises.proofs.Sound.{payloadOf, reading-sound}
@@ -143,6 +143,11 @@ module _ (s : List ℕ) (ps : List Plot) (c : Contains s ps) where
 
   pub contains-reads : reading s ≡ Plots ps (length (bytesOf ps))
   contains-reads = ap reading contains-form ∙ reading-complete (length s) ps contains-fits (c .short) (c .rising)
+
+pub plots-unique : PlotsUnique
+plots-unique s ps qs a b =
+    let e : Plots ps (length (bytesOf ps)) ≡ Plots qs (length (bytesOf qs)) = sym (contains-reads s ps a) ∙ contains-reads s qs b in
+    cc
 
 pub contains-of : (size : ℕ) (ps : List Plot) → size ≤ longest → Rising 0 ps → length (bytesOf ps) ≤ size → Contains (payloadOf size ps) ps
 contains-of size ps l r f = record { short = rw (payload-length size ps f) l; rising = r; zeros = size - length (bytesOf ps); form = refl }

@@ -15,7 +15,8 @@ use Rattle.plot.specs.declared.Added.{Added}
 use Rattle.plot.specs.Answers.{located, asked, added, payloadWith}
 use Rattle.plot.specs.Numbers.{locatedNumber, locatedStart, locatedLength, addedNumber, addedPlace, addedStart}
 
--- a plot that a record can hold: "three bytes a line", "0 to 40" lines, a number that is not 0, lines that hold
+-- a plot that a record can hold: "three bytes a line", "0 to 40" lines, a number that is not 0, lines that hold. That the number has two bytes is said where the
+-- payload is of bytes.
 pub record Holds (p : Plot) : Type 0 where
   pub threes : linesOf p * 3 ≡ length (p .lines)
   pub few : linesOf p ≤ 40
@@ -33,6 +34,10 @@ pub record Contains (s : List ℕ) (plots : List Plot) : Type 0 where
   pub rising : Rising 0 plots
   pub zeros : ℕ
   pub form : s ≡ bytesOf plots ++ replicate zeros 0
+
+-- a payload contains one list of plots only
+abbrev pub PlotsUnique : Type 0
+PlotsUnique = (s : List ℕ) (ps qs : List Plot) → Contains s ps → Contains s qs → ps ≡ qs
 
 -- plots added one after the other: the payload with all of them, or the number and place of the first refusal
 pub data Outcome : Type 0 where
