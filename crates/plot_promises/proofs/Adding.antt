@@ -24,7 +24,7 @@ use Rattle.plot_promises.specs.Canonical.{Contains}
 use Rattle.plot_promises.specs.Refusals.{AddingTo, AddingExactly}
 use Rattle.plot_promises.proofs.Checks.{first-one, not-both, Tested, unless-true, unless-most, unless-zero, chosen}
 use Rattle.plot_promises.proofs.Lines.{lines-hold-iff}
-use Rattle.plot_promises.proofs.Refusals.{Refuses, AnswerRefuses, refuse, number-some, added-at, added-refused}
+use Rattle.plot_promises.proofs.Refusals.{Refuses, AnswerRefuses, refuse, number-some, added-at, added-refused, added-unset}
 use Rattle.plot.proofs.Entries.{taken, added-plots, added-stopped, left-as-was}
 use Rattle.plot_promises.proofs.Canonical.{contains-fits, contains-form, contains-reads, contains-of, more-plots, write-one-more}
 use Rattle.plot_promises.proofs.Checking.{checks-stopped, stopped-of}
@@ -164,4 +164,5 @@ adding-exactly p s = record {
   unchanged = λ h.
       let r = added-refused (added p s) h in
       sym (left-as-was s p (r .0) (r .1));
+  unset = added-unset (added p s);
 }

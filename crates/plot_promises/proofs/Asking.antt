@@ -19,7 +19,7 @@ use Rattle.plot.specs.Answers.{checked, seek, located, asked}
 use Rattle.plot.specs.Numbers.{payloadNumber, payloadPlace, locatedNumber, locatedPlace, locatedStart, locatedLength}
 use Rattle.plot_promises.specs.Canonical.{Rising, Contains, FoundAt}
 use Rattle.plot_promises.specs.Refusals.{RecordAt, Absent, AskingExactly}
-use Rattle.plot_promises.proofs.Refusals.{number-some, located-refused}
+use Rattle.plot_promises.proofs.Refusals.{number-some, located-refused, located-unset}
 use Rattle.plot.proofs.Entries.{located-plots, located-stopped, part-refused}
 use Rattle.plot_promises.proofs.Canonical.{contains-fits, contains-form, contains-reads, reading-contains, rising-at, found-payload}
 use Rattle.plot_promises.proofs.Checking.{checks-stopped, stopped-of, stopped-number}
@@ -172,4 +172,5 @@ asking-exactly n s b =
       zero = zero-absent n s is;
       refused = λ number place z y. ((λ h. own-refusal n s number place z y is (h .0) (h .1)), λ h. refusal-own n s number place z (h .0) (h .1));
       empty = empty-part n s;
+      unset = located-unset (located n s);
     }

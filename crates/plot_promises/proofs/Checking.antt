@@ -21,7 +21,7 @@ use Rattle.plot.specs.Numbers.{numberOf, placeOf, payloadNumber, payloadPlace, 
 use Rattle.plot_promises.specs.Refusals.{RefusedAs, CheckingExactly}
 use Rattle.plot.proofs.Cases.{reading-short}
 use Rattle.plot_promises.proofs.Checks.{first-of}
-use Rattle.plot_promises.proofs.Refusals.{number-some}
+use Rattle.plot_promises.proofs.Refusals.{number-some, checked-unset}
 use Rattle.plot_promises.proofs.Sound.{Stops, ReadIs, read-is, reading-sound}
 use Rattle.plot_promises.proofs.Complete.{reading-stops}
 use Rattle.plot_promises.proofs.Canonical.{contains-reads, reading-contains}
@@ -124,4 +124,5 @@ checking-exactly s b = record {
         let e = checks-stopped s (r .0) (r .1) in
         (ap payloadNumber e ∙ r .2, ap payloadPlace e ∙ r .3)),
   );
+  unset = checked-unset (checked s);
 }

@@ -5,11 +5,13 @@ use mathlib.Core.Path.{_≡_, refl}
 use mathlib.Core.Logic.{_≢_}
 use Rattle.plot.specs.declared.Refusal.{Refusal}
 use Rattle.plot.specs.declared.Refusal.the-variants.{WrongLength, BadMark, CutShort, BadTally, PlotOrder, NoSuchPlot, Full}
+use Rattle.plot.specs.declared.Checked.{Checked}
+use Rattle.plot.specs.declared.Checked.the-variants as checked-as
 use Rattle.plot.specs.declared.Located.{Located}
 use Rattle.plot.specs.declared.Located.the-variants as located-as
 use Rattle.plot.specs.declared.Added.{Added}
 use Rattle.plot.specs.declared.Added.the-variants as added-as
-use Rattle.plot.specs.Numbers.{numberOf, placeOf, locatedNumber, addedNumber, addedStart}
+use Rattle.plot.specs.Numbers.{numberOf, placeOf, payloadNumber, payloadPlace, payloadEnd, locatedNumber, locatedPlace, addedNumber, addedPlace, addedStart}
 
 pub number-some : (r : Refusal) → numberOf r ≢ 0
 number-some WrongLength e = omega arith
@@ -31,6 +33,19 @@ added-at (added-as.Refused r) e = absurd (number-some r e)
 pub added-refused : (a : Added) → addedNumber a ≢ 0 → (r : Refusal) × (a ≡ added-as.Refused r)
 added-refused (added-as.At start) h = absurd (h refl)
 added-refused (added-as.Refused r) h = (r, refl)
+
+-- a value that an answer does not have is 0
+pub checked-unset : (a : Checked) → (payloadNumber a ≡ 0 → payloadPlace a ≡ 0) × (payloadNumber a ≢ 0 → payloadEnd a ≡ 0)
+checked-unset (checked-as.Accepted c) = (λ e. refl, λ h. absurd (h refl))
+checked-unset (checked-as.Refused r) = (λ e. absurd (number-some r e), λ h. refl)
+
+pub located-unset : (a : Located) → locatedNumber a ≡ 0 → locatedPlace a ≡ 0
+located-unset (located-as.At start len) e = refl
+located-unset (located-as.Refused r) e = absurd (number-some r e)
+
+pub added-unset : (a : Added) → (addedNumber a ≡ 0 → addedPlace a ≡ 0) × (addedNumber a ≢ 0 → addedStart a ≡ 0)
+added-unset (added-as.At start) = (λ e. refl, λ h. absurd (h refl))
+added-unset (added-as.Refused r) = (λ e. absurd (number-some r e), λ h. refl)
 
 pub record Refuses (at : ℕ) (r : Refusal) (number : ℕ) : Type 0 where
   pub number-is : numberOf r ≡ number

@@ -33,6 +33,8 @@ RefusedAs s number place = ((4048 < length s) × (number ≡ 2) × (place ≡ 0)
 pub record CheckingExactly (s : List ℕ) : Type 0 where
   pub accepted : (end : ℕ) → ((payloadNumber (checked s) ≡ 0) × (payloadEnd (checked s) ≡ end)) ↔ ((plots : List Plot) × Contains s plots × (end ≡ endOf plots))
   pub refused : (number place : ℕ) → number ≢ 0 → ((payloadNumber (checked s) ≡ number) × (payloadPlace (checked s) ≡ place)) ↔ RefusedAs s number place
+  -- E5: a value that an answer does not have is 0
+  pub unset : (payloadNumber (checked s) ≡ 0 → payloadPlace (checked s) ≡ 0) × (payloadNumber (checked s) ≢ 0 → payloadEnd (checked s) ≡ 0)
 
 -- the record of plot n begins at `start` in the payload s and is `bytes`
 pub record RecordAt (n : ℕ) (s : List ℕ) (start : ℕ) (bytes : List ℕ) : Type 0 where
@@ -63,6 +65,7 @@ pub record AskingExactly (n : ℕ) (s : List ℕ) : Type 0 where
       → ((locatedNumber (located n s) ≡ number) × (locatedPlace (located n s) ≡ place)) ↔ ((payloadNumber (checked s) ≡ number) × (payloadPlace (checked s) ≡ place))
   -- "After a refusal that part is empty"
   pub empty : locatedNumber (located n s) ≢ 0 → (asked n s ≡ []) × (locatedStart (located n s) ≡ 0) × (locatedLength (located n s) ≡ 0)
+  pub unset : locatedNumber (located n s) ≡ 0 → locatedPlace (located n s) ≡ 0
 
 -- adding the plot p to a payload that contains these plots: "the result is the record's first byte", and "the would-be first byte" is the place of a refusal
 pub record AddingTo (p : Plot) (s : List ℕ) (plots : List Plot) : Type 0 where
@@ -83,3 +86,4 @@ pub record AddingExactly (p : Plot) (s : List ℕ) : Type 0 where
   pub plot : (plots : List Plot) → Contains s plots → AddingTo p s plots
   -- E4: "Every lent buffer is unchanged"
   pub unchanged : addedNumber (added p s) ≢ 0 → payloadWith p s ≡ s
+  pub unset : (addedNumber (added p s) ≡ 0 → addedPlace (added p s) ≡ 0) × (addedNumber (added p s) ≢ 0 → addedStart (added p s) ≡ 0)
