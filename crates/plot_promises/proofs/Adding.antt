@@ -17,7 +17,7 @@ use Rattle.plot.specs.declared.Refusal.the-variants.{BadTally, PlotOrder, Full}
 use Rattle.plot.specs.declared.Added.{Added}
 use Rattle.plot.specs.declared.Added.the-variants.{At, Refused}
 use Rattle.plot.specs.Layout.{Plot, noLine, linesHold, linesOf, recordOf, bytesOf}
-use Rattle.plot_promises.specs.Checks.{Check, FirstFails, AllHold, addChecks}
+use Rattle.plot_promises.specs.Checks.{Check, FirstFails, NoneFails, addChecks}
 use Rattle.plot.specs.Answers.{lastNumber, linesFit, roomFor, added, payloadAfter, payloadWith}
 use Rattle.plot.specs.Numbers.{payloadNumber, payloadPlace, addedNumber, addedPlace, addedStart}
 use Rattle.plot_promises.specs.Canonical.{Contains}
@@ -59,7 +59,7 @@ module _ (size end last : ℕ) (p : Plot) (inside : end ≤ size) where
       }
       ∷ []
 
-  pub room-is : ((k : ℕ) × FirstFails (addChecks size end last p) k × AddRefuses (roomFor size end last p) k) ⊎ (AllHold (addChecks size end last p) × (roomFor size end last p ≡ At end))
+  pub room-is : ((k : ℕ) × FirstFails (addChecks size end last p) k × AddRefuses (roomFor size end last p) k) ⊎ (NoneFails (addChecks size end last p) × (roomFor size end last p ≡ At end))
   unfolding roomFor
   room-is = chosen AddRefuses addTests (At end)
 
@@ -98,7 +98,7 @@ module _ (p : Plot) (s : List ℕ) (plots : List Plot) (c : Contains s plots) wh
 
   pub data AddedIs : Type 0 where
     refused : (k : ℕ) → FirstFails checks k → (r : Refusal) → added p s ≡ Refused r → Refuses end r k → AddedIs
-    accepted : AllHold checks → added p s ≡ At end → AddedIs
+    accepted : NoneFails checks → added p s ≡ At end → AddedIs
 
   pub added-is : AddedIs
   added-is =
@@ -117,11 +117,11 @@ module _ (p : Plot) (s : List ℕ) (plots : List Plot) (c : Contains s plots) wh
   first-refused number place (refused k f r e h) a b = (ap addedNumber e ∙ h .number-is ∙ first-one checks k number f a, ap addedPlace e ∙ h .place-is ∙ sym b)
   first-refused number place (accepted f e) a b = absurd (not-both checks number a f)
 
-  accepted-all : (start : ℕ) → AddedIs → addedNumber (added p s) ≡ 0 → addedStart (added p s) ≡ start → AllHold checks × (start ≡ end)
+  accepted-all : (start : ℕ) → AddedIs → addedNumber (added p s) ≡ 0 → addedStart (added p s) ≡ start → NoneFails checks × (start ≡ end)
   accepted-all start (refused k f r e h) a b = absurd (number-some r (sym (ap addedNumber e) ∙ a))
   accepted-all start (accepted f e) a b = (f, sym b ∙ ap addedStart e)
 
-  all-accepted : (start : ℕ) → AddedIs → AllHold checks → start ≡ end → (addedNumber (added p s) ≡ 0) × (addedStart (added p s) ≡ start)
+  all-accepted : (start : ℕ) → AddedIs → NoneFails checks → start ≡ end → (addedNumber (added p s) ≡ 0) × (addedStart (added p s) ≡ start)
   all-accepted start (refused k f r e h) a b = absurd (not-both checks k f a)
   all-accepted start (accepted f e) a b = (ap addedNumber e, ap addedStart e ∙ sym b)
 

@@ -103,12 +103,11 @@ module _ (n : ℕ) (s : List ℕ) where
           let c = reading-contains s ps end b q in
           ⊎-elim (λ f. found ps c f) (λ k. none ps c (k .0) (k .1)) (asks n s ps c)
 
-  record-found : (start : ℕ) (bytes : List ℕ) → RecordAt n s start bytes
-      → (locatedNumber (located n s) ≡ 0) × (locatedStart (located n s) ≡ start) × (locatedLength (located n s) ≡ length bytes) × (asked n s ≡ bytes)
+  record-found : (start : ℕ) (bytes : List ℕ) → RecordAt n s start bytes → FoundAt n s start bytes
   record-found start bytes r =
       let f : FoundAt n s (length (bytesOf (r .before))) (recordOf (r .plot)) =
       subst (λ (k : ℕ). FoundAt k s (length (bytesOf (r .before))) (recordOf (r .plot))) (r .number) (found-in s (r .before) (r .after) (r .plot) (r .contains)) in
-      (f .number, f .start ∙ sym (r .begins), f .size ∙ ap length (sym (r .is)), f .part ∙ sym (r .is))
+      record { number = f .number; start = f .start ∙ sym (r .begins); size = f .size ∙ ap length (sym (r .is)); part = f .part ∙ sym (r .is) }
 
   found-record : (start : ℕ) (bytes : List ℕ) → AskedIs → locatedNumber (located n s) ≡ 0 → locatedStart (located n s) ≡ start → asked n s ≡ bytes → RecordAt n s start bytes
   found-record start bytes (found ps c f) z a p = record {
@@ -167,7 +166,7 @@ pub asking-exactly : (n : ℕ) (s : List ℕ) → Bytes s → AskingExactly n s
 asking-exactly n s b =
     let is : AskedIs n s = asked-is n s b in
     record {
-      found = λ start bytes. ((λ h. found-record n s start bytes is (h .0) (h .1) (h .3)), record-found n s start bytes);
+      found = λ start bytes. ((λ h. found-record n s start bytes is (h .number) (h .start) (h .part)), record-found n s start bytes);
       absent = ((λ h. none-absent n s is (h .0)), λ a. (ap locatedNumber (absent-none n s a), ap locatedPlace (absent-none n s a)));
       zero = zero-absent n s is;
       refused = λ number place z y. ((λ h. own-refusal n s number place z y is (h .0) (h .1)), λ h. refusal-own n s number place z (h .0) (h .1));

@@ -10,7 +10,7 @@ use lib.Dec.{ltb, leb, eqb}
 use borrow.Author.Tests.{ltb-true, ltb-false, leb-true, leb-false, eqb-true, eqb-false, not-true, not-false}
 use Rattle.lists.specs.Choice.{pick}
 use Rattle.lists.proofs.Test.{true-or-false, true-false}
-use Rattle.plot_promises.specs.Checks.{Check, _unless_, FirstFails, AllHold}
+use Rattle.plot_promises.specs.Checks.{Check, _unless_, FirstFails, NoneFails}
 
 -- the first check that fails is one, and then not all hold
 pub first-one : (checks : List Check) (j k : ℕ) → FirstFails checks j → FirstFails checks k → j ≡ k
@@ -20,7 +20,7 @@ first-one ((refusal unless A) ∷ checks) j k (inl a) (inr b) = absurd (a .0 (b 
 first-one ((refusal unless A) ∷ checks) j k (inr a) (inl b) = absurd (b .0 (a .0))
 first-one ((refusal unless A) ∷ checks) j k (inr a) (inr b) = first-one checks j k (a .1) (b .1)
 
-pub not-both : (checks : List Check) (k : ℕ) → FirstFails checks k → AllHold checks → ⊥
+pub not-both : (checks : List Check) (k : ℕ) → FirstFails checks k → NoneFails checks → ⊥
 not-both [] k a b = a
 not-both ((refusal unless A) ∷ checks) k (inl a) b = a .0 (b .0)
 not-both ((refusal unless A) ∷ checks) k (inr a) b = not-both checks k (a .1) (b .1)
@@ -41,11 +41,11 @@ first-before [] more k a = absurd a
 first-before ((refusal unless A) ∷ checks) more k (inl a) = inl a
 first-before ((refusal unless A) ∷ checks) more k (inr a) = inr (a .0, first-before checks more k (a .1))
 
-pub first-after : (checks more : List Check) (k : ℕ) → AllHold checks → FirstFails more k → FirstFails (checks ++ more) k
+pub first-after : (checks more : List Check) (k : ℕ) → NoneFails checks → FirstFails more k → FirstFails (checks ++ more) k
 first-after [] more k a f = f
 first-after ((refusal unless A) ∷ checks) more k a f = inr (a .0, first-after checks more k (a .1) f)
 
-pub all-after : (checks more : List Check) → AllHold checks → AllHold more → AllHold (checks ++ more)
+pub all-after : (checks more : List Check) → NoneFails checks → NoneFails more → NoneFails (checks ++ more)
 all-after [] more a b = b
 all-after ((refusal unless A) ∷ checks) more a b = (a .0, all-after checks more (a .1) b)
 
@@ -116,7 +116,7 @@ module _ {A : Type 0} (P : A → ℕ → Type 0) where
   choice (t ∷ ts) onward = pick (t .test) (t .answer) (choice ts onward)
 
   pub chosen : (ts : List Tested) (onward : A)
-      → ((k : ℕ) × FirstFails (checksOf ts) k × P (choice ts onward) k) ⊎ (AllHold (checksOf ts) × (choice ts onward ≡ onward))
+      → ((k : ℕ) × FirstFails (checksOf ts) k × P (choice ts onward) k) ⊎ (NoneFails (checksOf ts) × (choice ts onward ≡ onward))
   chosen [] onward = inr (tt, refl)
   chosen (t ∷ ts) onward =
       ⊎-elim

@@ -16,7 +16,7 @@ use Rattle.plot.specs.declared.Step.{Step}
 use Rattle.plot.specs.declared.Step.the-variants.{Record, End, Refused}
 use Rattle.plot.specs.Layout.{mark, headerLength, plotOf, countOf, recordLength}
 use Rattle.plot_promises.specs.Lines.{LinesHold}
-use Rattle.plot_promises.specs.Checks.{Check, _unless_, AllHold, Marked, Zeros, FaultAt, inZeros, inRecord}
+use Rattle.plot_promises.specs.Checks.{Check, _unless_, NoneFails, Marked, Zeros, FaultAt, inZeros, inRecord}
 use Rattle.plot.specs.Grammar.{allZero, agree, headAt, stepAt}
 use Rattle.plot.specs.Numbers.{numberOf, placeOf}
 use Rattle.plot_promises.proofs.Checks.{first-before, Tested, unless-true, unless-less, unless-zero, checksOf, chosen}
@@ -78,7 +78,7 @@ module _ (at : ℕ) (s : List ℕ) where
   pub data StepIs : Type 0 where
     ends : Zeros s → stepAt at s ≡ End → StepIs
     stops : (r : Refusal) → stepAt at s ≡ Refused r → placeOf r ≡ at → ((last : ℕ) → FaultAt last s (numberOf r)) → StepIs
-    goes-on : getD s 0 0 ≢ 0 → AllHold headChecks → stepAt at s ≡ recordHere → StepIs
+    goes-on : getD s 0 0 ≢ 0 → NoneFails headChecks → stepAt at s ≡ recordHere → StepIs
 
   zero-tail : getD s 0 0 ≡ 0 → allZero s ≡ false → stepAt at s ≡ Refused (BadMark at)
   unfolding stepAt

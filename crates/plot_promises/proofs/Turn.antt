@@ -14,7 +14,7 @@ use Rattle.plot.specs.declared.Refusal.{Refusal}
 use Rattle.plot.specs.declared.Refusal.the-variants.{BadTally, PlotOrder}
 use Rattle.plot.specs.declared.Step.the-variants.{Record}
 use Rattle.plot.specs.Layout.{headerLength, plotOf, countOf, recordLength, noLine, linesHold}
-use Rattle.plot_promises.specs.Checks.{AllHold, recordChecks, Zeros, FaultAt, inZeros, inRecord}
+use Rattle.plot_promises.specs.Checks.{NoneFails, recordChecks, Zeros, FaultAt, inZeros, inRecord}
 use Rattle.plot.specs.Grammar.{stepAt, Plots, Stopped, onto, readFrom}
 use Rattle.plot.specs.Numbers.{numberOf, placeOf}
 use Rattle.plot.proofs.Cases.{plotHere, read-end, read-refused, read-lines, read-order, read-on}
@@ -29,11 +29,11 @@ module _ (f at last : ℕ) (s : List ℕ) where
     ends : Zeros s → readFrom (suc f) at last s ≡ Plots [] at → TurnIs
     stops : (r : Refusal) → readFrom (suc f) at last s ≡ Stopped r → placeOf r ≡ at → FaultAt last s (numberOf r) → TurnIs
     goes-on : getD s 0 0 ≢ 0 → (from count : ℕ) (next : Cursor) (e : stepAt at s ≡ Record from count next) → linesHold noLine count (drop headerLength s) ≡ true → last < next .last
-        → AllHold (recordChecks last s)
+        → NoneFails (recordChecks last s)
         → readFrom (suc f) at last s ≡ onto (plotHere at last s from count next e) (readFrom f (next .at) (next .last) (drop (recordLength count) s)) → TurnIs
 
   -- a record whose header holds
-  module _ (z : getD s 0 0 ≢ 0) (a : AllHold (headChecks at s)) (e : stepAt at s ≡ recordHere at s) where
+  module _ (z : getD s 0 0 ≢ 0) (a : NoneFails (headChecks at s)) (e : stepAt at s ≡ recordHere at s) where
     abbrev next : Cursor
     next = record { at = at + recordLength (countOf s); last = plotOf s }
 
@@ -86,7 +86,7 @@ pub not-zeros : (last : ℕ) (s : List ℕ) (k : ℕ) → FaultAt last s k → Z
 not-zeros last s k (inZeros z h e) y = h y
 not-zeros last s k (inRecord z h) y = z (zeros-first s y)
 
-not-record : (last : ℕ) (s : List ℕ) (k : ℕ) → getD s 0 0 ≢ 0 → FaultAt last s k → AllHold (recordChecks last s) → ⊥
+not-record : (last : ℕ) (s : List ℕ) (k : ℕ) → getD s 0 0 ≢ 0 → FaultAt last s k → NoneFails (recordChecks last s) → ⊥
 not-record last s k z (inZeros y h e) a = z y
 not-record last s k z (inRecord y h) a = not-both (recordChecks last s) k h a
 

@@ -10,7 +10,7 @@ use Rattle.lists.specs.Bytes.{Bytes}
 use Rattle.lists.specs.Choice.{pick}
 use Rattle.plot.specs.Layout.{Plot, linesOf, recordOf, bytesOf}
 use Rattle.plot_promises.specs.Lines.{LinesHold}
-use Rattle.plot.specs.Grammar.{Plots, reading, longest}
+use Rattle.plot.specs.Grammar.{Plots, reading}
 use Rattle.plot.specs.declared.Added.{Added}
 use Rattle.plot.specs.Answers.{located, asked, added, payloadWith}
 use Rattle.plot.specs.Numbers.{locatedNumber, locatedStart, locatedLength, addedNumber, addedPlace, addedStart}
@@ -61,7 +61,7 @@ WrittenAsRead = (s : List ℕ) (ps : List Plot) → Contains s ps → addAll ps 
 
 -- .. and what was so written holds those plots
 abbrev pub ReadAsWritten : Type 0
-ReadAsWritten = (size : ℕ) (ps : List Plot) (s : List ℕ) → size ≤ longest → addAll ps (replicate size 0) ≡ AllAdded s → Contains s ps
+ReadAsWritten = (size : ℕ) (ps : List Plot) (s : List ℕ) → size ≤ 4048 → addAll ps (replicate size 0) ≡ AllAdded s → Contains s ps
 
 -- asking s for plot n gives `bytes`, and the companion entry says that they begin at `first`
 pub record FoundAt (n : ℕ) (s : List ℕ) (first : ℕ) (bytes : List ℕ) : Type 0 where

@@ -19,9 +19,9 @@ FirstFails [] number = ⊥
 FirstFails ((refusal unless A) ∷ checks) number = ((A → ⊥) × (number ≡ refusal)) ⊎ (A × FirstFails checks number)
 
 -- none fails
-abbrev pub AllHold : List Check → Type 0
-AllHold [] = Unit {0}
-AllHold ((refusal unless A) ∷ checks) = A × AllHold checks
+abbrev pub NoneFails : List Check → Type 0
+NoneFails [] = Unit {0}
+NoneFails ((refusal unless A) ∷ checks) = A × NoneFails checks
 
 -- "as much of the mark as the payload holds"
 abbrev pub Marked : List ℕ → Type 0

@@ -6,10 +6,10 @@ use mathlib.Core.List.{List, [], _∷_, _++_}
 use Prim.Native.Nat.{ℕ, _+_, _<_, _≤_}
 use lib.ListN.{length, getD}
 use Rattle.plot.specs.Layout.{Plot, recordOf, bytesOf}
-use Rattle.plot_promises.specs.Checks.{FirstFails, AllHold, FaultAt, addChecks}
+use Rattle.plot_promises.specs.Checks.{FirstFails, NoneFails, FaultAt, addChecks}
 use Rattle.plot.specs.Answers.{lastNumber, checked, located, asked, added, payloadWith}
 use Rattle.plot.specs.Numbers.{payloadNumber, payloadPlace, payloadEnd, locatedNumber, locatedPlace, locatedStart, locatedLength, addedNumber, addedPlace, addedStart}
-use Rattle.plot_promises.specs.Canonical.{Rising, Contains}
+use Rattle.plot_promises.specs.Canonical.{Rising, Contains, FoundAt}
 
 -- the byte after the last record, 0 if there is none
 abbrev pub endOf : List Plot → ℕ
@@ -55,8 +55,7 @@ pub record Absent (n : ℕ) (s : List ℕ) : Type 0 where
 -- asking for plot n, and its companion
 pub record AskingExactly (n : ℕ) (s : List ℕ) : Type 0 where
   -- "the record, mark to last line, as a part of the caller's payload"
-  pub found : (start : ℕ) (bytes : List ℕ)
-      → ((locatedNumber (located n s) ≡ 0) × (locatedStart (located n s) ≡ start) × (locatedLength (located n s) ≡ length bytes) × (asked n s ≡ bytes)) ↔ RecordAt n s start bytes
+  pub found : (start : ℕ) (bytes : List ℕ) → FoundAt n s start bytes ↔ RecordAt n s start bytes
   -- 9, "no such plot", at place 0
   pub absent : ((locatedNumber (located n s) ≡ 9) × (locatedPlace (located n s) ≡ 0)) ↔ Absent n s
   pub zero : payloadNumber (checked s) ≡ 0 → n ≡ 0 → locatedNumber (located n s) ≡ 9
@@ -71,7 +70,7 @@ pub record AskingExactly (n : ℕ) (s : List ℕ) : Type 0 where
 pub record AddingTo (p : Plot) (s : List ℕ) (plots : List Plot) : Type 0 where
   pub refused : (number place : ℕ) → number ≢ 0
       → ((addedNumber (added p s) ≡ number) × (addedPlace (added p s) ≡ place)) ↔ (FirstFails (addChecks (length s) (endOf plots) (lastNumber 0 plots) p) number × (place ≡ endOf plots))
-  pub accepted : (start : ℕ) → ((addedNumber (added p s) ≡ 0) × (addedStart (added p s) ≡ start)) ↔ (AllHold (addChecks (length s) (endOf plots) (lastNumber 0 plots) p) × (start ≡ endOf plots))
+  pub accepted : (start : ℕ) → ((addedNumber (added p s) ≡ 0) × (addedStart (added p s) ≡ start)) ↔ (NoneFails (addChecks (length s) (endOf plots) (lastNumber 0 plots) p) × (start ≡ endOf plots))
   -- "It writes the record right after the last record (at byte 0 if there is none) .."
   pub written : addedNumber (added p s) ≡ 0 → Contains (payloadWith p s) (plots ++ p ∷ [])
   -- ".. and changes no other byte"
