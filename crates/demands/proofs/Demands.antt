@@ -11,7 +11,8 @@ use Rattle.sheet.proofs.Refusals.{sheet-refusals}
 use Rattle.sheet.proofs.Promise.{sheet-promise}
 use Rattle.demands.proofs.Examples.{starred-examples}
 use Rattle.plot_promises.proofs.Lines.{lines-hold-iff}
-use Rattle.plot_promises.proofs.Canonical.{plots-unique, written-as-read, read-as-written, accepted-form, added-is-found}
+use Rattle.plot_promises.proofs.Canonical.{record-bytes, plots-unique, written-as-read, read-as-written, accepted-form, added-is-found}
+use Rattle.plot_promises.proofs.Stepping.{stepping-exactly}
 use Rattle.plot_promises.proofs.Checking.{checking-exactly}
 use Rattle.plot_promises.proofs.Asking.{asking-exactly}
 use Rattle.plot_promises.proofs.Adding.{adding-exactly}
@@ -37,6 +38,8 @@ demands = record {
     writing = writes-codeword;
     clean = clean-iff;
     places = places;
+    layout = record-bytes;
+    stepping = stepping-exactly;
     records = accepted-form;
     unique = plots-unique;
     lines = lines-hold-iff;

@@ -18,8 +18,8 @@ use Rattle.sheet.specs.Promise.{Damaged, ReadsBack}
 use Rattle.demands.specs.Examples.{StarredExamples}
 use Rattle.plot.specs.Layout.{Plot}
 use Rattle.plot_promises.specs.Lines.{LinesHoldIff}
-use Rattle.plot_promises.specs.Canonical.{PlotsUnique, WrittenAsRead, ReadAsWritten, AcceptedForm, AddedIsFound}
-use Rattle.plot_promises.specs.Refusals.{CheckingExactly, AskingExactly, AddingExactly}
+use Rattle.plot_promises.specs.Canonical.{RecordBytes, PlotsUnique, WrittenAsRead, ReadAsWritten, AcceptedForm, AddedIsFound}
+use Rattle.plot_promises.specs.Refusals.{SteppingExactly, CheckingExactly, AskingExactly, AddingExactly}
 use Rattle.plot.specs.Sheets.{WrittenReadsAsPlots, SameAfterDamage}
 use Rattle.listing_text.specs.Meaning.{DecimalIff, OneReading, AcceptedText, RefusalText}
 use Rattle.listing.specs.Refusals.{ListRefusals}
@@ -44,9 +44,12 @@ pub record Demand2 : Type 0 where
   pub writing : WritesCodeword
   -- ".. a block is called clean exactly if all its syndromes are zero."
   pub clean : CleanIff
-  -- "Sheets and plot records follow document 01.": where cells and bytes of a sheet stand; an accepted payload is the records of one list of plots, then zeros,
-  -- and lines hold where each is in its ranges and above the one before; an added plot is found. What checking, asking and adding answer, accepted or refused, is in Demand1.
+  -- "Sheets and plot records follow document 01.": where cells and bytes of a sheet stand; the bytes of a record, and what stands at a place of the payload; an
+  -- accepted payload is the records of one list of plots, then zeros, and lines hold where each is in its ranges and above the one before; an added plot is found.
+  -- What checking, asking and adding answer, accepted or refused, is in Demand1.
   pub places : (D : ℕ) → Places D
+  pub layout : RecordBytes
+  pub stepping : (at : ℕ) (s : List ℕ) → SteppingExactly at s
   pub records : AcceptedForm
   pub unique : PlotsUnique
   pub lines : LinesHoldIff

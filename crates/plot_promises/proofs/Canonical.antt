@@ -20,13 +20,19 @@ use Rattle.plot_promises.specs.Lines.{LinesHold}
 use Rattle.plot.specs.Grammar.{Plots, longest, reading}
 use Rattle.plot.specs.Answers.{lastNumber, seek, located, partOf, asked, added, payloadAfter, payloadWith}
 use Rattle.plot.specs.Numbers.{numberOf, placeOf, locatedNumber, locatedStart, locatedLength, addedStart}
-use Rattle.plot_promises.specs.Canonical.{Holds, Rising, Contains, PlotsUnique, AllAdded, NotAdded, addThen, addAll, WrittenAsRead, ReadAsWritten, AcceptedForm, FoundAt, AddedIsFound}
-use Rattle.plot.proofs.Lists.{part-front, part-middle}
+use Rattle.plot_promises.specs.Canonical.{RecordBytes, Holds, Rising, Contains, PlotsUnique, AllAdded, NotAdded, addThen, addAll, WrittenAsRead, ReadAsWritten, AcceptedForm, FoundAt, AddedIsFound}
+use Rattle.plot.proofs.Lists.{low-byte, high-byte, part-front, part-middle}
 use Rattle.plot_promises.proofs.Lines.{lines-hold-iff}
 use Rattle.plot_promises.proofs.Sound.{payloadOf, reading-sound}
 use Rattle.plot_promises.proofs.Complete.{payload-length, reading-complete}
 use Rattle.plot.proofs.Entries.{reading-reads, taken, added-plots, add-here, located-plots, Within, within-seek}
 use Rattle.plot_promises.proofs.Refusals.{number-some, added-at}
+
+pub record-bytes : RecordBytes
+record-bytes = record {
+  bytes = λ low high lines h. rw (low-byte low high h, high-byte low high h) refl;
+  line = λ x y z rest. (refl, refl, refl);
+}
 
 -- plots in a row
 pub bytes-append : (ps qs : List Plot) → bytesOf (ps ++ qs) ≡ bytesOf ps ++ bytesOf qs

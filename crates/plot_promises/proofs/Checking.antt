@@ -14,7 +14,7 @@ use Rattle.plot.specs.declared.Refusal.{Refusal}
 use Rattle.plot.specs.declared.Refusal.the-variants.{WrongLength}
 use Rattle.plot.specs.declared.Checked.the-variants as checked-as
 use Rattle.plot.specs.Layout.{Plot, bytesOf}
-use Rattle.plot_promises.specs.Checks.{FaultAt, inZeros, inRecord, recordChecks}
+use Rattle.plot_promises.specs.Checks.{RecordFault, inZeros, inRecord, recordChecks}
 use Rattle.plot.specs.Grammar.{Parsed, Plots, Stopped, reading, longest}
 use Rattle.plot.specs.Answers.{lastNumber, checkedOf, checked}
 use Rattle.plot.specs.Numbers.{numberOf, placeOf, payloadNumber, payloadPlace, payloadEnd}
@@ -90,7 +90,7 @@ module _ (s : List ℕ) (r : Refusal) (q : reading s ≡ Stopped r) where
       (λ l. fault-number _ _ (numberOf r) (stops-in l .fault) e)
       (lt-or-ge longest (length s))
     where
-      fault-number : (last : ℕ) (t : List ℕ) (k : ℕ) → FaultAt last t k → k ≢ 9
+      fault-number : (last : ℕ) (t : List ℕ) (k : ℕ) → RecordFault last t k → k ≢ 9
       fault-number last t k (inZeros z h a) = λ e. omega arith
       fault-number last t k (inRecord z h) =
           first-of (λ (j : ℕ). j ≢ 9) (recordChecks last t) k
@@ -124,5 +124,6 @@ checking-exactly s b = record {
         let e = checks-stopped s (r .0) (r .1) in
         (ap payloadNumber e ∙ r .2, ap payloadPlace e ∙ r .3)),
   );
+  cursor = λ plots c. checks-plots s plots _ (contains-reads s plots c);
   unset = checked-unset (checked s);
 }

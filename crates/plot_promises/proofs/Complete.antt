@@ -12,7 +12,7 @@ use Rattle.plot.specs.declared.Cursor.{Cursor}
 use Rattle.plot.specs.declared.Refusal.{Refusal}
 use Rattle.plot.specs.declared.Step.the-variants.{Record, End}
 use Rattle.plot.specs.Layout.{Plot, mark, headerLength, plotOf, recordLength, noLine, linesHold, linesOf, recordOf, bytesOf}
-use Rattle.plot_promises.specs.Checks.{FaultAt}
+use Rattle.plot_promises.specs.Checks.{RecordFault}
 use Rattle.plot.specs.Grammar.{allZero, agree, headAt, stepAt, Parsed, Plots, Stopped, onto, readFrom, longest, reading}
 use Rattle.plot.specs.Answers.{lastNumber}
 use Rattle.plot_promises.specs.Canonical.{Holds, Rising}
@@ -136,7 +136,7 @@ module _ (size : ℕ) (ps : List Plot) (fits : length (bytesOf ps) ≤ size) whe
       ∙ ap (Plots ps) (zero-add (length (bytesOf ps)))
 
 -- plots, then a fault
-pub reading-stops : (ps : List Plot) (rest : List ℕ) (k : ℕ) → length (bytesOf ps ++ rest) ≤ longest → Rising 0 ps → FaultAt (lastNumber 0 ps) rest k
+pub reading-stops : (ps : List Plot) (rest : List ℕ) (k : ℕ) → length (bytesOf ps ++ rest) ≤ longest → Rising 0 ps → RecordFault (lastNumber 0 ps) rest k
     → (r : Refusal) × (reading (bytesOf ps ++ rest) ≡ Stopped r) × Refuses (length (bytesOf ps)) r k
 reading-stops ps rest k l r x =
     let s = bytesOf ps ++ rest in

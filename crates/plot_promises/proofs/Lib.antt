@@ -3,6 +3,7 @@ pub mod Refusals
 pub mod Checks
 pub mod Place
 pub mod Turn
+pub mod Stepping
 pub mod Sound
 pub mod Complete
 pub mod Canonical

@@ -6,7 +6,7 @@ use mathlib.Core.Bool.{true, false}
 use mathlib.Core.List.{List, [], _∷_}
 use Prim.Native.Nat.{ℕ, zero, suc, zero-le, suc-le-suc, _+_, _<_}
 use native.Mathlib.Nat.{not-suc-le-zero, le-of-suc-le-suc}
-use lib.ListN.{length, getD, drop}
+use lib.ListN.{length, getD}
 use lib.Dec.{eqb}
 use borrow.Author.Tests.{eq-eqb, ne-eqb, eqb-true, eqb-false}
 use Rattle.lists.proofs.Test.{true-or-false, true-false}
@@ -15,11 +15,10 @@ use Rattle.plot.specs.declared.Refusal.the-variants.{BadMark, CutShort, BadTall
 use Rattle.plot.specs.declared.Step.{Step}
 use Rattle.plot.specs.declared.Step.the-variants.{Record, End, Refused}
 use Rattle.plot.specs.Layout.{mark, headerLength, plotOf, countOf, recordLength}
-use Rattle.plot_promises.specs.Lines.{LinesHold}
-use Rattle.plot_promises.specs.Checks.{Check, _unless_, NoneFails, Marked, Zeros, FaultAt, inZeros, inRecord}
+use Rattle.plot_promises.specs.Checks.{NoneFails, Marked, headerChecks, Zeros, FaultAt, inZeros, inRecord}
 use Rattle.plot.specs.Grammar.{allZero, agree, headAt, stepAt}
 use Rattle.plot.specs.Numbers.{numberOf, placeOf}
-use Rattle.plot_promises.proofs.Checks.{first-before, Tested, unless-true, unless-less, unless-zero, checksOf, chosen}
+use Rattle.plot_promises.proofs.Checks.{Tested, unless-true, unless-less, unless-zero, chosen}
 use Rattle.plot_promises.proofs.Refusals.{AnswerRefuses, refuse}
 use Rattle.plot_promises.proofs.Lines.{pick-true}
 
@@ -50,10 +49,6 @@ zeros-iff (x ∷ s) = (
     each e h zero a = e
     each e h (suc i) a = h i (le-of-suc-le-suc a)
 
--- the two checks after those
-abbrev pub lineChecks : ℕ → List ℕ → List Check
-lineChecks last s = (7 unless (LinesHold (countOf s) (drop headerLength s))) ∷ (8 unless (last < plotOf s)) ∷ []
-
 module _ (at : ℕ) (s : List ℕ) where
   -- a step that is refused here
   abbrev pub StepRefuses : Step → ℕ → Type 0
@@ -68,17 +63,14 @@ module _ (at : ℕ) (s : List ℕ) where
       ∷ unless-zero StepRefuses 7 (Refused (BadTally at)) (refuse Refused at (BadTally at) refl) (plotOf s)
       ∷ []
 
-  abbrev pub headChecks : List Check
-  headChecks = checksOf StepRefuses headTests
-
   abbrev pub recordHere : Step
   recordHere = Record (at + headerLength) (countOf s) (record { at = at + recordLength (countOf s); last = plotOf s })
 
   -- what stands here
   pub data StepIs : Type 0 where
     ends : Zeros s → stepAt at s ≡ End → StepIs
-    stops : (r : Refusal) → stepAt at s ≡ Refused r → placeOf r ≡ at → ((last : ℕ) → FaultAt last s (numberOf r)) → StepIs
-    goes-on : getD s 0 0 ≢ 0 → NoneFails headChecks → stepAt at s ≡ recordHere → StepIs
+    stops : (r : Refusal) → stepAt at s ≡ Refused r → placeOf r ≡ at → FaultAt (headerChecks s) s (numberOf r) → StepIs
+    goes-on : getD s 0 0 ≢ 0 → NoneFails (headerChecks s) → stepAt at s ≡ recordHere → StepIs
 
   zero-tail : getD s 0 0 ≡ 0 → allZero s ≡ false → stepAt at s ≡ Refused (BadMark at)
   unfolding stepAt
@@ -92,7 +84,7 @@ module _ (at : ℕ) (s : List ℕ) where
   zero-first z =
       ⊎-elim
       (λ e. ends (zeros-iff s .0 e) (zero-end z e))
-      (λ e. stops (BadMark at) (zero-tail z e) refl (λ last. inZeros z (λ h. true-false (zeros-iff s .1 h) e) refl))
+      (λ e. stops (BadMark at) (zero-tail z e) refl (inZeros z (λ h. true-false (zeros-iff s .1 h) e) refl))
       (true-or-false (allZero s))
 
   record-first : getD s 0 0 ≢ 0 → StepIs
@@ -102,7 +94,7 @@ module _ (at : ℕ) (s : List ℕ) where
       (λ a.
       let r = a .2 .0 in
       stops r (rw (ne-eqb _ _ z) (a .2 .1)) (a .2 .2 .place-is)
-      (λ last. inRecord z (rw (a .2 .2 .number-is) (first-before headChecks (lineChecks last s) (a .0) (a .1)))))
+      (inRecord z (rw (a .2 .2 .number-is) (a .1))))
       (λ b. goes-on z (b .0) (rw (ne-eqb _ _ z) (b .1)))
       (chosen StepRefuses headTests recordHere)
 

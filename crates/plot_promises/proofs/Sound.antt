@@ -17,7 +17,7 @@ use Rattle.lists.specs.Choice.{pick}
 use Rattle.lists.proofs.Bytes.{getD-byte, drop-bytes}
 use Rattle.plot.specs.Layout.{Plot, mark, headerLength, recordLength, noLine, lineHolds, linesHold, linesOf, recordOf, bytesOf}
 use Rattle.plot.specs.Grammar.{stepAt, Parsed, Plots, Stopped, onto, readFrom, reading}
-use Rattle.plot_promises.specs.Checks.{Zeros, FaultAt}
+use Rattle.plot_promises.specs.Checks.{Zeros, RecordFault}
 use Rattle.plot.specs.Answers.{lastNumber}
 use Rattle.plot.specs.Numbers.{numberOf, placeOf}
 use Rattle.plot_promises.specs.Canonical.{Holds, Rising}
@@ -135,13 +135,13 @@ pub record Stops (at last : ℕ) (s : List ℕ) (r : Refusal) : Type 0 where
   pub plots : List Plot
   pub fronts : Fronts last s plots
   pub begins : at + length (bytesOf plots) ≡ placeOf r
-  pub fault : FaultAt (lastNumber last plots) (drop (length (bytesOf plots)) s) (numberOf r)
+  pub fault : RecordFault (lastNumber last plots) (drop (length (bytesOf plots)) s) (numberOf r)
 
 abbrev pub ReadIs : ℕ → ℕ → List ℕ → Parsed → Type 0
 ReadIs at last s (Plots ps end) = Ends at last s ps end
 ReadIs at last s (Stopped r) = Stops at last s r
 
-stops-here : (at last : ℕ) (s : List ℕ) (r : Refusal) → placeOf r ≡ at → FaultAt last s (numberOf r) → Stops at last s r
+stops-here : (at last : ℕ) (s : List ℕ) (r : Refusal) → placeOf r ≡ at → RecordFault last s (numberOf r) → Stops at last s r
 stops-here at last s r p h = record { plots = []; fronts = fronts-none last s; begins = add-zero at ∙ sym p; fault = h }
 
 -- a record whose lines hold and whose number rises, before what is read after it
@@ -163,7 +163,7 @@ module _ (at last : ℕ) (s : List ℕ) (from count : ℕ) (next : Cursor) (e : 
     plots = here at last s from count next e ∷ i .plots;
     fronts = fronts-more at last s from count next e (i .plots) g rise (i .fronts);
     begins = goes-past (placeOf r) (i .plots) (i .begins);
-    fault = subst (λ (t : List ℕ). FaultAt (lastNumber (next .last) (i .plots)) t (numberOf r)) (rest-after at last s from count next e (i .plots)) (i .fault);
+    fault = subst (λ (t : List ℕ). RecordFault (lastNumber (next .last) (i .plots)) t (numberOf r)) (rest-after at last s from count next e (i .plots)) (i .fault);
   }
 
 abbrev Steps : ℕ → Type 0

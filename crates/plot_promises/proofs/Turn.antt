@@ -3,7 +3,7 @@
 use mathlib.Core.Path.{_≡_, refl, sym, ap, _∙_}
 use mathlib.Core.Logic.{_≢_, inl, inr, ⊎-elim}
 use mathlib.Core.Bool.{true, false}
-use mathlib.Core.List.{List, [], _∷_}
+use mathlib.Core.List.{List, [], _∷_, _++_}
 use Prim.Native.Nat.{ℕ, zero, suc, zero-le, suc-le-suc, _+_, _-_, _<_, _≤_}
 use native.Mathlib.Omega.{arith}
 use native.Mathlib.Nat.{not-suc-le-zero}
@@ -14,45 +14,54 @@ use Rattle.plot.specs.declared.Refusal.{Refusal}
 use Rattle.plot.specs.declared.Refusal.the-variants.{BadTally, PlotOrder}
 use Rattle.plot.specs.declared.Step.the-variants.{Record}
 use Rattle.plot.specs.Layout.{headerLength, plotOf, countOf, recordLength, noLine, linesHold}
-use Rattle.plot_promises.specs.Checks.{NoneFails, recordChecks, Zeros, FaultAt, inZeros, inRecord}
+use Rattle.plot_promises.specs.Lines.{LinesHold}
+use Rattle.plot_promises.specs.Checks.{Check, _unless_, NoneFails, headerChecks, recordChecks, Zeros, FaultAt, RecordFault, inZeros, inRecord}
 use Rattle.plot.specs.Grammar.{stepAt, Plots, Stopped, onto, readFrom}
 use Rattle.plot.specs.Numbers.{numberOf, placeOf}
 use Rattle.plot.proofs.Cases.{plotHere, read-end, read-refused, read-lines, read-order, read-on}
 use Rattle.plot_promises.proofs.Lines.{lines-hold-iff}
-use Rattle.plot_promises.proofs.Checks.{first-one, not-both, first-after, all-after}
+use Rattle.plot_promises.proofs.Checks.{first-one, not-both, first-before, first-after, all-after}
 use Rattle.plot_promises.proofs.Refusals.{Refuses}
 use Rattle.plot_promises.proofs.Place as place
-use Rattle.plot_promises.proofs.Place.{headChecks, lineChecks, recordHere, StepIs, step-is}
+use Rattle.plot_promises.proofs.Place.{recordHere, StepIs, step-is}
+
+-- the two checks after those of the header
+abbrev lineChecks : ℕ → List ℕ → List Check
+lineChecks last s = (7 unless (LinesHold (countOf s) (drop headerLength s))) ∷ (8 unless (last < plotOf s)) ∷ []
+
+fault-more : (checks more : List Check) (s : List ℕ) (k : ℕ) → FaultAt checks s k → FaultAt (checks ++ more) s k
+fault-more checks more s k (inZeros z h e) = inZeros z h e
+fault-more checks more s k (inRecord z h) = inRecord z (first-before checks more k h)
 
 module _ (f at last : ℕ) (s : List ℕ) where
   pub data TurnIs : Type 0 where
     ends : Zeros s → readFrom (suc f) at last s ≡ Plots [] at → TurnIs
-    stops : (r : Refusal) → readFrom (suc f) at last s ≡ Stopped r → placeOf r ≡ at → FaultAt last s (numberOf r) → TurnIs
+    stops : (r : Refusal) → readFrom (suc f) at last s ≡ Stopped r → placeOf r ≡ at → RecordFault last s (numberOf r) → TurnIs
     goes-on : getD s 0 0 ≢ 0 → (from count : ℕ) (next : Cursor) (e : stepAt at s ≡ Record from count next) → linesHold noLine count (drop headerLength s) ≡ true → last < next .last
         → NoneFails (recordChecks last s)
         → readFrom (suc f) at last s ≡ onto (plotHere at last s from count next e) (readFrom f (next .at) (next .last) (drop (recordLength count) s)) → TurnIs
 
   -- a record whose header holds
-  module _ (z : getD s 0 0 ≢ 0) (a : NoneFails (headChecks at s)) (e : stepAt at s ≡ recordHere at s) where
+  module _ (z : getD s 0 0 ≢ 0) (a : NoneFails (headerChecks s)) (e : stepAt at s ≡ recordHere at s) where
     abbrev next : Cursor
     next = record { at = at + recordLength (countOf s); last = plotOf s }
 
     lines-fail : linesHold noLine (countOf s) (drop headerLength s) ≡ false → TurnIs
     lines-fail g =
         stops (BadTally at) (read-lines at last s _ (countOf s) next e (suc f) (suc-le-suc zero-le) g) refl
-        (inRecord z (first-after (headChecks at s) (lineChecks last s) 7 a (inl ((λ k. true-false (lines-hold-iff _ _ .1 k) g), refl))))
+        (inRecord z (first-after (headerChecks s) (lineChecks last s) 7 a (inl ((λ k. true-false (lines-hold-iff _ _ .1 k) g), refl))))
 
     module _ (g : linesHold noLine (countOf s) (drop headerLength s) ≡ true) where
       rise-fails : plotOf s ≤ last → TurnIs
       rise-fails o =
           stops (PlotOrder at) (read-order at last s _ (countOf s) next e g (suc f) (suc-le-suc zero-le) o) refl
-          (inRecord z (first-after (headChecks at s) (lineChecks last s) 8 a (inr (lines-hold-iff _ _ .0 g, inl ((λ k. omega arith), refl)))))
+          (inRecord z (first-after (headerChecks s) (lineChecks last s) 8 a (inr (lines-hold-iff _ _ .0 g, inl ((λ k. omega arith), refl)))))
 
       rises-on : last < plotOf s → TurnIs
       rises-on o =
           let y : suc f - 1 ≡ f = omega arith in
           let rest = drop (recordLength (countOf s)) s in
-          goes-on z _ (countOf s) next e g o (all-after (headChecks at s) (lineChecks last s) a (lines-hold-iff _ _ .0 g, (o, tt)))
+          goes-on z _ (countOf s) next e g o (all-after (headerChecks s) (lineChecks last s) a (lines-hold-iff _ _ .0 g, (o, tt)))
           (read-on at last s _ (countOf s) next e g (suc f) (suc-le-suc zero-le) o
           ∙ ap (λ (n : ℕ). onto (plotHere at last s _ (countOf s) next e) (readFrom n (next .at) (next .last) rest)) y)
 
@@ -65,37 +74,38 @@ module _ (f at last : ℕ) (s : List ℕ) where
 
   turn-step : length s ≤ suc f → StepIs at s → TurnIs
   turn-step h (place.ends z e) = ends z (read-end at last s (suc f) e)
-  turn-step h (place.stops r e p k) = stops r (read-refused at last s (suc f) r h e) p (k last)
+  turn-step h (place.stops r e p k) = stops r (read-refused at last s (suc f) r h e) p (fault-more (headerChecks s) (lineChecks last s) s (numberOf r) k)
   turn-step h (place.goes-on z a e) = turn-record z a e
 
   pub turn-is : length s ≤ suc f → TurnIs
   turn-is h = turn-step h (step-is at s)
 
--- what stands at a place has one fault at most, and none where zeros or a record stand
-pub fault-one : (last : ℕ) (s : List ℕ) (j k : ℕ) → FaultAt last s j → FaultAt last s k → j ≡ k
-fault-one last s j k (inZeros z h a) (inZeros y g b) = a ∙ sym b
-fault-one last s j k (inZeros z h a) (inRecord y g) = absurd (y z)
-fault-one last s j k (inRecord z h) (inZeros y g b) = absurd (z y)
-fault-one last s j k (inRecord z h) (inRecord y g) = first-one (recordChecks last s) j k h g
-
-zeros-first : (s : List ℕ) → Zeros s → getD s 0 0 ≡ 0
+pub zeros-first : (s : List ℕ) → Zeros s → getD s 0 0 ≡ 0
 zeros-first [] h = refl
 zeros-first (x ∷ s) h = h 0 (suc-le-suc zero-le)
 
-pub not-zeros : (last : ℕ) (s : List ℕ) (k : ℕ) → FaultAt last s k → Zeros s → ⊥
-not-zeros last s k (inZeros z h e) y = h y
-not-zeros last s k (inRecord z h) y = z (zeros-first s y)
+-- what stands at a place has one fault at most, and none where zeros or a record stand
+module _ (checks : List Check) (s : List ℕ) where
+  pub fault-one : (j k : ℕ) → FaultAt checks s j → FaultAt checks s k → j ≡ k
+  fault-one j k (inZeros z h a) (inZeros y g b) = a ∙ sym b
+  fault-one j k (inZeros z h a) (inRecord y g) = absurd (y z)
+  fault-one j k (inRecord z h) (inZeros y g b) = absurd (z y)
+  fault-one j k (inRecord z h) (inRecord y g) = first-one checks j k h g
 
-not-record : (last : ℕ) (s : List ℕ) (k : ℕ) → getD s 0 0 ≢ 0 → FaultAt last s k → NoneFails (recordChecks last s) → ⊥
-not-record last s k z (inZeros y h e) a = z y
-not-record last s k z (inRecord y h) a = not-both (recordChecks last s) k h a
+  pub not-zeros : (k : ℕ) → FaultAt checks s k → Zeros s → ⊥
+  not-zeros k (inZeros z h e) y = h y
+  not-zeros k (inRecord z h) y = z (zeros-first s y)
+
+  pub not-record : (k : ℕ) → getD s 0 0 ≢ 0 → FaultAt checks s k → NoneFails checks → ⊥
+  not-record k z (inZeros y h e) a = z y
+  not-record k z (inRecord y h) a = not-both checks k h a
 
 -- so the reading stops by it
-pub fault-reads : (f at last : ℕ) (s : List ℕ) (k : ℕ) → length s ≤ f → FaultAt last s k → (r : Refusal) × (readFrom f at last s ≡ Stopped r) × Refuses at r k
-fault-reads zero at last s k h x = absurd (not-zeros last s k x (λ i l. absurd (let y : i < 0 = omega arith in not-suc-le-zero y)))
+pub fault-reads : (f at last : ℕ) (s : List ℕ) (k : ℕ) → length s ≤ f → RecordFault last s k → (r : Refusal) × (readFrom f at last s ≡ Stopped r) × Refuses at r k
+fault-reads zero at last s k h x = absurd (not-zeros (recordChecks last s) s k x (λ i l. absurd (let y : i < 0 = omega arith in not-suc-le-zero y)))
 fault-reads (suc f) at last s k h x = by-turn (turn-is f at last s h)
   where
     by-turn : TurnIs f at last s → (r : Refusal) × (readFrom (suc f) at last s ≡ Stopped r) × Refuses at r k
-    by-turn (ends z q) = absurd (not-zeros last s k x z)
-    by-turn (stops r q p y) = (r, q, record { number-is = fault-one last s (numberOf r) k y x; place-is = p })
-    by-turn (goes-on z from count next e g rise a q) = absurd (not-record last s k z x a)
+    by-turn (ends z q) = absurd (not-zeros (recordChecks last s) s k x z)
+    by-turn (stops r q p y) = (r, q, record { number-is = fault-one (recordChecks last s) s (numberOf r) k y x; place-is = p })
+    by-turn (goes-on z from count next e g rise a q) = absurd (not-record (recordChecks last s) s k z x a)

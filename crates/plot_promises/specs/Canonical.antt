@@ -1,6 +1,6 @@
 -- The canonical form of a payload (R1, R6): the records of its plots in turn, then zeros. The statements say that reading and adding agree on it,
 -- with each answer told by its numbers (E5); proofs/Canonical.antt proves them.
-use Prim.Native.Nat.{ℕ, _*_, _<_, _≤_}
+use Prim.Native.Nat.{ℕ, _+_, _*_, _/_, _<_, _≤_}
 use mathlib.Core.Path.{_≡_}
 use mathlib.Core.Logic.{_↔_, _≢_}
 use mathlib.Core.List.{List, [], _∷_, _++_}
@@ -8,12 +8,19 @@ use lib.ListN.{length, replicate}
 use lib.Dec.{eqb}
 use Rattle.lists.specs.Bytes.{Bytes}
 use Rattle.lists.specs.Choice.{pick}
-use Rattle.plot.specs.Layout.{Plot, linesOf, recordOf, bytesOf}
+use Rattle.plot.specs.Layout.{Plot, lineOf, linesOf, recordOf, bytesOf}
 use Rattle.plot_promises.specs.Lines.{LinesHold}
 use Rattle.plot.specs.Grammar.{Plots, reading}
 use Rattle.plot.specs.declared.Added.{Added}
 use Rattle.plot.specs.Answers.{located, asked, added, payloadWith}
 use Rattle.plot.specs.Numbers.{locatedNumber, locatedStart, locatedLength, addedNumber, addedPlace, addedStart}
+
+-- the bytes of a record in turn: "the two-byte mark 50 4C (hexadecimal)", "the plot number (two bytes, low first ..)", "the number of lines (one byte ..)", and the
+-- lines, each "species number .., diameter class .., tree count", a byte each
+pub record RecordBytes : Type 0 where
+  pub bytes : (low high : ℕ) (lines : List ℕ) → low < 256
+      → recordOf (record { number = low + high * 256; lines = lines }) ≡ 0x50 ∷ 0x4C ∷ low ∷ high ∷ length lines / 3 ∷ lines
+  pub line : (x y z : ℕ) (rest : List ℕ) → (lineOf (x ∷ y ∷ z ∷ rest) .species ≡ x) × (lineOf (x ∷ y ∷ z ∷ rest) .class ≡ y) × (lineOf (x ∷ y ∷ z ∷ rest) .count ≡ z)
 
 -- a plot that a record can hold: "three bytes a line", "0 to 40" lines, a number that is not 0, lines that hold. That the number has two bytes is said where the
 -- payload is of bytes.

@@ -2,7 +2,7 @@
 -- A list s of bytes is the payload from some place on.
 use mathlib.Core.Path.{_≡_}
 use mathlib.Core.Logic.{_⊎_, _≢_}
-use mathlib.Core.List.{List, [], _∷_}
+use mathlib.Core.List.{List, [], _∷_, _++_}
 use Prim.Native.Nat.{ℕ, _+_, _%_, _<_, _≤_}
 use lib.ListN.{length, getD, drop}
 use Rattle.plot.specs.Layout.{Plot, mark, headerLength, plotOf, countOf, recordLength, linesOf, recordOf}
@@ -27,28 +27,34 @@ NoneFails ((refusal unless A) ∷ checks) = A × NoneFails checks
 abbrev pub Marked : List ℕ → Type 0
 Marked s = (i : ℕ) → i < length s → i < length mark → getD s i 0 ≡ getD mark i 0
 
--- "the checks are, in order: as much of the mark as the payload holds; the five header bytes are there; at most 40 lines; all lines are there; plot number
--- not 0; the lines in turn, each by species, class, count and then its rise; rise of plot numbers", after a plot of the number `last`
-abbrev pub recordChecks : ℕ → List ℕ → List Check
-recordChecks last s =
+-- "the checks are, in order: as much of the mark as the payload holds; the five header bytes are there; at most 40 lines; all lines are there; plot number not 0;
+-- .."
+abbrev pub headerChecks : List ℕ → List Check
+headerChecks s =
     (5 unless (Marked s))
     ∷ (6 unless (headerLength ≤ length s))
     ∷ (7 unless (countOf s ≤ 40))
     ∷ (6 unless (recordLength (countOf s) ≤ length s))
     ∷ (7 unless (plotOf s ≢ 0))
-    ∷ (7 unless (LinesHold (countOf s) (drop headerLength s)))
-    ∷ (8 unless (last < plotOf s))
     ∷ []
+
+-- ".. the lines in turn, each by species, class, count and then its rise; rise of plot numbers", after a plot of the number `last`
+abbrev pub recordChecks : ℕ → List ℕ → List Check
+recordChecks last s = headerChecks s ++ ((7 unless (LinesHold (countOf s) (drop headerLength s))) ∷ (8 unless (last < plotOf s)) ∷ [])
 
 abbrev pub Zeros : List ℕ → Type 0
 Zeros s = (i : ℕ) → i < length s → getD s i 0 ≡ 0
 
--- what stands at a place is refused by `number`
-pub data FaultAt (last : ℕ) (s : List ℕ) (number : ℕ) : Type 0 where
+-- what stands at a place is refused by `number`, where a record there has to pass these checks
+pub data FaultAt (checks : List Check) (s : List ℕ) (number : ℕ) : Type 0 where
   -- "If the byte there is zero, all later bytes must be zero."
-  inZeros : getD s 0 0 ≡ 0 → (Zeros s → ⊥) → number ≡ 5 → FaultAt last s number
+  inZeros : getD s 0 0 ≡ 0 → (Zeros s → ⊥) → number ≡ 5 → FaultAt checks s number
   -- "Otherwise the checks are .."
-  inRecord : getD s 0 0 ≢ 0 → FirstFails (recordChecks last s) number → FaultAt last s number
+  inRecord : getD s 0 0 ≢ 0 → FirstFails checks number → FaultAt checks s number
+
+-- as what stands after a plot of the number `last`
+abbrev pub RecordFault : ℕ → List ℕ → ℕ → Type 0
+RecordFault last s number = FaultAt (recordChecks last s) s number
 
 -- adding a plot, after the payload's own check: "the length of the lent lines (7: 0 to 120 bytes, three a line), then that the plot number isn't 0, then the
 -- lines in turn, then the rise, then the space", where the records end at `end`, the last has the number `last`, and the payload has `size` bytes

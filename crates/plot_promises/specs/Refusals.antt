@@ -1,19 +1,34 @@
--- What the entries on a payload answer, exactly when (R1 to R5, E3, E4), over plots, bytes and document 01's numbers: how a payload is checked, asking for a
--- plot, and adding one. The answers are fixed by these: number, place and every value, both ways. proofs/Checking.antt, Asking.antt and Adding.antt prove them.
+-- What the entries on a payload answer, exactly when (R1 to R5, E3, E4), over plots, bytes and document 01's numbers: what stands at a place, the check of a
+-- payload, asking for a plot, and adding one. These fix number, place and every value of an answer. proofs/Stepping.antt, Checking.antt, Asking.antt and
+-- Adding.antt prove them.
 use mathlib.Core.Path.{_≡_}
 use mathlib.Core.Logic.{_↔_, _⊎_, _≢_}
 use mathlib.Core.List.{List, [], _∷_, _++_}
 use Prim.Native.Nat.{ℕ, _+_, _<_, _≤_}
 use lib.ListN.{length, getD}
-use Rattle.plot.specs.Layout.{Plot, recordOf, bytesOf}
-use Rattle.plot_promises.specs.Checks.{FirstFails, NoneFails, FaultAt, addChecks}
+use Rattle.plot.specs.declared.Cursor.{Cursor}
+use Rattle.plot.specs.declared.Refusal.{Refusal}
+use Rattle.plot.specs.declared.Step.the-variants.{Record, End, Refused}
+use Rattle.plot.specs.declared.Checked.the-variants.{Accepted}
+use Rattle.plot.specs.Layout.{Plot, plotOf, countOf, recordLength, recordOf, bytesOf}
+use Rattle.plot.specs.Grammar.{stepAt}
+use Rattle.plot_promises.specs.Checks.{FirstFails, NoneFails, headerChecks, Zeros, FaultAt, RecordFault, addChecks}
 use Rattle.plot.specs.Answers.{lastNumber, checked, located, asked, added, payloadWith}
-use Rattle.plot.specs.Numbers.{payloadNumber, payloadPlace, payloadEnd, locatedNumber, locatedPlace, locatedStart, locatedLength, addedNumber, addedPlace, addedStart}
+use Rattle.plot.specs.Numbers.{numberOf, placeOf, payloadNumber, payloadPlace, payloadEnd, locatedNumber, locatedPlace, locatedStart, locatedLength, addedNumber, addedPlace, addedStart}
 use Rattle.plot_promises.specs.Canonical.{Rising, Contains, FoundAt}
 
 -- the byte after the last record, 0 if there is none
 abbrev pub endOf : List Plot → ℕ
 endOf plots = length (bytesOf plots)
+
+-- what stands at the place `at`, the payload from there on being s: "A place in the payload moves on one record at a time."
+pub record SteppingExactly (at : ℕ) (s : List ℕ) : Type 0 where
+  pub ends : (stepAt at s ≡ End) ↔ Zeros s
+  -- a record whose checks before the lines hold: where its lines begin, how many they are, and the cursor after it
+  pub goes-on : (lines count : ℕ) (next : Cursor) → (stepAt at s ≡ Record lines count next)
+      ↔ ((getD s 0 0 ≢ 0) × NoneFails (headerChecks s) × (lines ≡ at + 5) × (count ≡ countOf s) × (next .at ≡ at + recordLength (countOf s)) × (next .last ≡ plotOf s))
+  pub refused : (number place : ℕ)
+      → ((r : Refusal) × (stepAt at s ≡ Refused r) × (numberOf r ≡ number) × (placeOf r ≡ place)) ↔ (FaultAt (headerChecks s) s number × (place ≡ at))
 
 -- the records of plots that hold and rise, then, at `place`, bytes at which the check of this number is the first that fails
 pub record StopsAt (s : List ℕ) (number place : ℕ) : Type 0 where
@@ -23,7 +38,7 @@ pub record StopsAt (s : List ℕ) (number place : ℕ) : Type 0 where
   pub rising : Rising 0 plots
   pub form : s ≡ bytesOf plots ++ rest
   pub begins : place ≡ endOf plots
-  pub fault : FaultAt (lastNumber 0 plots) rest number
+  pub fault : RecordFault (lastNumber 0 plots) rest number
 
 -- a payload that is refused: 2 at place 0 if it "exceeds 4,048 bytes", before all others; else by "the first failing check of the first failing record"
 abbrev pub RefusedAs : List ℕ → ℕ → ℕ → Type 0
@@ -33,6 +48,8 @@ RefusedAs s number place = ((4048 < length s) × (number ≡ 2) × (place ≡ 0)
 pub record CheckingExactly (s : List ℕ) : Type 0 where
   pub accepted : (end : ℕ) → ((payloadNumber (checked s) ≡ 0) × (payloadEnd (checked s) ≡ end)) ↔ ((plots : List Plot) × Contains s plots × (end ≡ endOf plots))
   pub refused : (number place : ℕ) → number ≢ 0 → ((payloadNumber (checked s) ≡ number) × (payloadPlace (checked s) ≡ place)) ↔ RefusedAs s number place
+  -- the cursor after the last record, with the last plot's number, 0 if there is none
+  pub cursor : (plots : List Plot) → Contains s plots → checked s ≡ Accepted (record { at = endOf plots; last = lastNumber 0 plots })
   -- E5: a value that an answer does not have is 0
   pub unset : (payloadNumber (checked s) ≡ 0 → payloadPlace (checked s) ≡ 0) × (payloadNumber (checked s) ≢ 0 → payloadEnd (checked s) ≡ 0)
 
