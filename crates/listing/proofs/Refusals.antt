@@ -1,5 +1,5 @@
 -- The lister's refusals: what the sheet's theorems say of the reader's answer on the lister's own buffers, and the text for that answer.
-use mathlib.Core.Path.{_≡_, refl, sym, ap₂, _∙_}
+use mathlib.Core.Path.{_≡_, refl, sym, ap, ap₂, _∙_}
 use mathlib.Core.Logic.{_≢_, inl, inr, ⊎-elim}
 use mathlib.Core.List.{List}
 use Prim.Native.Nat.{ℕ, _≤_}
@@ -15,10 +15,12 @@ use Rattle.sheet.specs.Theorems.{LowestRefused, AllWords, differing}
 use Rattle.sheet.specs.declared.Reading.{Reading}
 use Rattle.sheet.specs.declared.Reading.the-variants.{Refused, Accepted}
 use Rattle.sheet.proofs.Theorems.{read-accepts}
-use Rattle.plot.specs.Grammar.{Parsed, Plots, Stopped, reading}
-use Rattle.plot.specs.Answers.{checkedOf}
-use Rattle.plot.specs.Numbers.{payloadNumber, payloadPlace}
+use Rattle.plot.specs.Grammar.{reading}
+use Rattle.plot.specs.Answers.{checked}
+use Rattle.plot.specs.Numbers.{numberOf, placeOf, payloadNumber, payloadPlace}
+use Rattle.plot_promises.proofs.Checking.{checks-stopped, stopped-of}
 use Rattle.listing_text.specs.Text.{refusalText, listingText}
+use Rattle.listing_text.proofs.Meaning.{refusal-text, refused-payload}
 use Rattle.listing.specs.Listing.{inputProfile, sheetAnswerText, scratchBuffer, payloadBuffer, sheetText, listed}
 use Rattle.listing.specs.Refusals.{SheetInput, messages, ListRefusals}
 use Rattle.listing.proofs.OwnBuffers.{answer, refusals, results}
@@ -30,11 +32,6 @@ answer-text : (a : Reading) (m : List ℕ) → readingNumber a ≢ 0 → sheetAn
 unfolding sheetAnswerText
 answer-text (Refused r) m n = refl
 answer-text (Accepted changed) m n = absurd (n refl)
-
-payload-text : (changed : ℕ) (q : Parsed) → payloadNumber (checkedOf 0 q) ≢ 0 → listingText changed q ≡ refusalText (payloadNumber (checkedOf 0 q)) (payloadPlace (checkedOf 0 q))
-unfolding checkedOf listingText
-payload-text changed (Plots ps end) n = absurd (n refl)
-payload-text changed (Stopped r) n = refl
 
 module _ (p : Profile) (sheet : List ℕ) where
   refused-text : (number place : ℕ) → readingNumber (answer p sheet) ≡ number → readingPlace (answer p sheet) ≡ place → number ≢ 0 → sheetText p sheet ≡ refusalText number place
@@ -69,9 +66,13 @@ module _ (input : List ℕ) where
       let t = read-accepts p sheet (scratchBuffer p) (payloadBuffer p) (h .ranges) lent words a in
       listed-rest (h .profile) ∙ sym (text-accepted p sheet (scratchBuffer p) (payloadBuffer p) refl refl _ (messages input words) (sym (t .0)) (sym (t .1 .payload)))
 
-  payload-refused : SheetInput input → (words : ℕ → List ℕ) → AllWords p sheet words → (q : Parsed) → reading (messages input words) ≡ q → payloadNumber (checkedOf 0 q) ≢ 0
-      → listed input ≡ refusalText (payloadNumber (checkedOf 0 q)) (payloadPlace (checkedOf 0 q))
-  payload-refused h words a q e n = listed-payload h words a ∙ ap₂ listingText refl e ∙ payload-text _ q n
+  payload-refused : SheetInput input → (words : ℕ → List ℕ) → AllWords p sheet words → payloadNumber (checked (messages input words)) ≢ 0
+      → listed input ≡ refusalText (payloadNumber (checked (messages input words))) (payloadPlace (checked (messages input words)))
+  payload-refused h words a n =
+      let r = stopped-of (messages input words) n in
+      let e = checks-stopped (messages input words) (r .0) (r .1) in
+      listed-payload h words a ∙ ap₂ listingText refl (r .1) ∙ refused-payload _ (r .0) ∙ sym (refusal-text (numberOf (r .0)) (placeOf (r .0)) .text)
+      ∙ sym (ap₂ refusalText (ap payloadNumber e) (ap payloadPlace e))
 
 pub list-refusals : (input : List ℕ) → ListRefusals input
 list-refusals input = record {
@@ -83,5 +84,5 @@ list-refusals input = record {
       let e = refusals (p input) (sheet input) .early .two .1 (v, λ z. n (z .0)) in
       listed-rest input l ∙ refused-text (p input) (sheet input) 2 0 e (refusals (p input) (sheet input) .place (inr e)) (λ q. omega arith);
   blocks = λ h d number o. listed-rest input (h .profile) ∙ lowest-text (p input) (sheet input) (h .ranges) (own-buffers (p input) (sheet input) (h .cells)) d number o;
-  records = λ h words a n. payload-refused input h words a (reading (messages input words)) refl n;
+  records = payload-refused input;
 }
