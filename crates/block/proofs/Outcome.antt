@@ -3,10 +3,9 @@
 use mathlib.Core.Path.{_≡_, sym, ap, _∙_, subst}
 use mathlib.Core.Bool.{true, false}
 use mathlib.Core.List.{List}
-use Prim.Native.Nat.{ℕ, _+_, _-_, _≤_, _<_, zero-le}
+use Prim.Native.Nat.{ℕ, _+_, _≤_, _<_, zero-le}
 use native.Mathlib.Omega.{arith}
-use lib.ListN.{length, take, replicate}
-use lib.Seq.{take-append-le}
+use lib.ListN.{length, take}
 use mathlib.Core.Logic.{_≢_}
 use borrow.Author.Tests.{lt-ltb, le-ltb, eq-eqb, ne-eqb}
 use Rattle.code.specs.Code.{generator, remainder}
@@ -17,7 +16,7 @@ use Rattle.code.proofs.Division.{remainder-length}
 use Rattle.code.proofs.Shifted.{backSteps-length}
 use Rattle.register.specs.Words.{cells}
 use Rattle.words.specs.Cells.{padTo}
-use Rattle.words.proofs.Pad.{pad-is}
+use Rattle.words.proofs.Pad.{take-pad}
 use Rattle.profile.specs.Profile.{InRange}
 use Rattle.block.specs.Block.{isClean, decided, verdict, filled}
 use Rattle.block.specs.Found.{bestOf, Searched}
@@ -35,10 +34,6 @@ unfolding filled
 outcome-clean p y out o v h t e =
     let q : Corrected 0 0 ≡ verdict p y = sym (clean-verdict p y v h t) in
     (q, e ∙ sym (added-none y 0 (shiftedRemainder (p .b) (p .r) 0 y) zero-le) ∙ ap (filled p y out) q)
-
--- the first cells of a list that is padded
-take-pad : (f : ℕ) (l : List ℕ) → f ≤ length l → length l ≤ 64 → take f (padTo 64 l) ≡ take f l
-take-pad f l h k = ap (take f) (pad-is 64 l k) ∙ take-append-le f l (replicate (64 - length l) 0) h
 
 module _ (p : Profile) (y out : List ℕ) (v : InRange p) (h : Cells p y) (wrong : isClean (p .b) (p .r) y ≡ false)
     (R : List ℕ) (eR : R ≡ remainder (p .r) (generator (p .b) (p .r)) y) (k : Found) (s : Searched p R k) where
@@ -74,7 +69,7 @@ module _ (p : Profile) (y out : List ℕ) (v : InRange p) (h : Cells p y) (wrong
         let S : List ℕ = backSteps (k .start) G (remainder (p .r) G y) in
         let lS : length S ≡ p .r = backSteps-length (k .start) (p .r) G (remainder (p .r) G y) (generator-length (p .b) (p .r)) (remainder-length (p .r) (p .b) y) in
         ap (take (k .size)) (eC ∙ s .error ∙ ap (λ (u : List ℕ). padTo 64 (backSteps (k .start) G u)) eR)
-        ∙ take-pad (k .size) S (omega (arith, v .limit-below)) (omega (arith, v .r-most))
+        ∙ take-pad (k .size) 64 S (omega (arith, v .limit-below)) (omega (arith, v .r-most))
 
     pub outcome-once : k .again ≢ 1 → (C o : List ℕ) → C ≡ cells (k .error) → o ≡ addedAt (k .start) (take (k .size) C) y
         → (Corrected (k .start) (k .size) ≡ verdict p y) × (o ≡ filled p y out (verdict p y))

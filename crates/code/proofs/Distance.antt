@@ -9,7 +9,7 @@ use native.Mathlib.Nat.{add-suc, suc-inj}
 use native.Mathlib.Omega.{arith}
 use lib.Dec.{eqb}
 use lib.ListN.{length, getD}
-use borrow.Author.Tests.{eqb-true}
+use borrow.Author.Tests.{eq-eqb, eqb-true}
 use Rattle.lists.specs.Choice.{pick}
 use Rattle.lists.proofs.Test.{true-or-false}
 use Rattle.field.specs.Field.{add, mul, power, alpha}
@@ -56,7 +56,7 @@ weight-zero [] h = tt
 weight-zero (zero ∷ c) h = (refl, weight-zero c (omega arith))
 weight-zero (suc x ∷ c) h = absurd (omega arith)
 
-eval-zero : (c : List ℕ) (z : ℕ) → Zero c → eval c z ≡ 0
+pub eval-zero : (c : List ℕ) (z : ℕ) → Zero c → eval c z ≡ 0
 unfolding eval
 eval-zero [] z h = refl
 eval-zero (x ∷ c) z h = ap₂ (λ (u v : ℕ). add u (mul z v)) (h .0) (eval-zero c z (h .1)) ∙ simp ring
@@ -168,6 +168,22 @@ unfolding distance
 distance-le [] d = zero-le
 distance-le (x ∷ c) [] = zero-le
 distance-le (x ∷ c) (y ∷ d) = ⊎-elim (λ t. rw t (omega (arith, distance-le c d))) (λ t. rw t (omega (arith, distance-le c d))) (true-or-false (eqb x y))
+
+-- a word differs from itself in no cell, and from every other word of its length in one at least
+pub distance-self : (c : List ℕ) → distance c c ≡ 0
+unfolding distance
+distance-self [] = refl
+distance-self (x ∷ c) = rw (eq-eqb x x refl) (omega (arith, distance-self c))
+
+pub distance-same : (c d : List ℕ) → length c ≡ length d → distance c d ≡ 0 → c ≡ d
+unfolding distance
+distance-same [] [] e q = refl
+distance-same [] (y ∷ d) e q = absurd (omega arith)
+distance-same (x ∷ c) [] e q = absurd (omega arith)
+distance-same (x ∷ c) (y ∷ d) e q =
+    ⊎-elim
+    (λ t. ap₂ (λ (z : ℕ) (l : List ℕ). z ∷ l) (eqb-true x y t) (distance-same c d (suc-inj e) (let z : _≡_ {A = ℕ} (0 + distance c d) 0 = rw t at q in omega arith)))
+    (λ t. absurd (let z : _≡_ {A = ℕ} (1 + distance c d) 0 = rw t at q in omega arith)) (true-or-false (eqb x y))
 
 -- two words with the same syndromes that differ in at most r cells are one
 pub determined : (r b : ℕ) (c d : List ℕ) → Bytes c → Bytes d → length c ≡ length d → length c ≤ 255

@@ -44,7 +44,7 @@ power-mul a m zero = ap (power a) (native.Mathlib.Nat.mul-zero m)
 power-mul a m (suc n) =
     ap (power a) (mul-suc m n) ∙ power-add a (m * n) m ∙ mul-comm (power a (m * n)) (power a m) ∙ ap (mul (power a m)) (power-mul a m n)
 
-power-two : (a : ℕ) → power a 2 ≡ mul a a
+pub power-two : (a : ℕ) → power a 2 ≡ mul a a
 unfolding power
 power-two a = sym (mul-assoc a a 1) ∙ mul-one (mul a a) (mul-lt a a)
 

@@ -11,7 +11,7 @@ use Rattle.code.specs.Code.{generator}
 use Rattle.code.specs.Run.{tail, backStep}
 use Rattle.code.proofs.Poly.{pscale-mul}
 use Rattle.words.specs.Cells.{shiftDown, padTo}
-use Rattle.words.proofs.Pad.{pad-first, pad-sum, pad-scale, pad-down}
+use Rattle.words.proofs.Pad.{pad-at, pad-sum, pad-scale, pad-down}
 use Rattle.register.specs.Register.{backGenerator}
 use Rattle.register.proofs.Multiples.{rows-sum}
 
@@ -43,7 +43,7 @@ pub back-step : (b r : ℕ) (R : List ℕ) → length R ≤ 64
     → padd (shiftDown (padTo 64 R) 0) (pscale (getD (padTo 64 R) 0 0) (padTo 64 (backGenerator (generator b r)))) ≡ padTo 64 (backStep (generator b r) R)
 back-step b r R h =
     let H : List ℕ = backGenerator (generator b r) in
-    ap₂ padd (pad-down 64 R h) (ap (λ (f : ℕ). pscale f (padTo 64 H)) (pad-first 64 R (omega arith)) ∙ pad-scale 64 (getD R 0 0) H)
+    ap₂ padd (pad-down 64 R h) (ap (λ (f : ℕ). pscale f (padTo 64 H)) (pad-at 64 R 0 (omega arith)) ∙ pad-scale 64 (getD R 0 0) H)
     ∙ pad-sum 64 (drop 1 R) (pscale (getD R 0 0) H)
     ∙ ap (padTo 64) (sym (step-is b r R))
 

@@ -19,7 +19,7 @@ use Rattle.code.proofs.Generator.{generator-length, generator-monic, generator-
 use Rattle.words.specs.Doubles.{DoublesOf}
 use Rattle.words.specs.declared.Doubles.{Doubles}
 use Rattle.words.specs.Cells.{shiftDown, padTo}
-use Rattle.words.proofs.Pad.{pad-first, pad-scale}
+use Rattle.words.proofs.Pad.{pad-at, pad-scale}
 use Rattle.register.specs.Register.{onTop, monicOf, backGenerator}
 use Rattle.register.proofs.Align.{low-scale, low-sum}
 
@@ -141,4 +141,4 @@ bottom-law r c v G L P D N h l eL ec ev eP eD eN =
     eN
     ∙ ap (pscale v) (eD ∙ ap (λ (u : List ℕ). padTo 64 (drop (64 - r) u)) eP)
     ∙ pad-scale 64 v (drop (64 - r) (shiftDown G 1))
-    ∙ ap (padTo 64) (scaled-tail r v G h l (λ p. ev ∙ ap inverse (ec ∙ ap (λ (u : List ℕ). getD u 0 0) eL ∙ pad-first 64 (drop (64 - r) G) (omega arith) ∙ first-monic (64 - r) G (omega arith))))
+    ∙ ap (padTo 64) (scaled-tail r v G h l (λ p. ev ∙ ap inverse (ec ∙ ap (λ (u : List ℕ). getD u 0 0) eL ∙ pad-at 64 (drop (64 - r) G) 0 (omega arith) ∙ first-monic (64 - r) G (omega arith))))

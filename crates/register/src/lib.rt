@@ -16,14 +16,14 @@ use words::Doubles;
 
 /// Eight words of eight cells; the lowest cell is the lowest byte of w0.
 pub struct Register {
-    w0: u64,
-    w1: u64,
-    w2: u64,
-    w3: u64,
-    w4: u64,
-    w5: u64,
-    w6: u64,
-    w7: u64,
+    pub w0: u64,
+    pub w1: u64,
+    pub w2: u64,
+    pub w3: u64,
+    pub w4: u64,
+    pub w5: u64,
+    pub w6: u64,
+    pub w7: u64,
 }
 
 /// All cells zero.

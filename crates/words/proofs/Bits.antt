@@ -21,7 +21,7 @@ use Rattle.words.specs.declared.Doubles.{Doubles}
 use Rattle.words.proofs.Linear.{family, agreeB, shr, byte-add, shr-add, and-add, after, sum-add}
 use Rattle.words.proofs.Words.{word-bytes, down-bytes, word-xor, same8}
 
-abbrev ones : ℕ
+abbrev pub ones : ℕ
 ones = 0x0101010101010101
 
 -- ---- a word of bits times a byte
@@ -82,7 +82,7 @@ bit-byte k hk =
     (λ j. after (λ x. x / 2 ^ k % 2) (λ v. byte v j) (bit-add k) (byte-add j)) 8
     (all-at (λ m. all (λ j. all (agreeB (λ v. byte (bitAnd (shr m v) ones) j) (λ v. byte v j / 2 ^ m % 2)) 64) 8) 8 bit-test k hk)
 
-plane-byte : (k c w : ℕ) → k < 8 → c < 256 → w < 2 ^ 64 → (j : ℕ) → j < 8 → byte (bitAnd (w / 2 ^ k) ones * c) j ≡ mul c (byte w j / 2 ^ k % 2)
+pub plane-byte : (k c w : ℕ) → k < 8 → c < 256 → w < 2 ^ 64 → (j : ℕ) → j < 8 → byte (bitAnd (w / 2 ^ k) ones * c) j ≡ mul c (byte w j / 2 ^ k % 2)
 plane-byte k c w hk hc hw j hj =
     times-byte j (bitAnd (w / 2 ^ k) ones) c hc (λ i hi. rw (sym (bit-byte k hk i (omega arith) w hw)) at (bit-lt (byte w i / 2 ^ k)))
     ∙ ap (λ (x : ℕ). x * c) (bit-byte k hk j hj w hw)
@@ -104,7 +104,7 @@ plane-fits v c h =
 abbrev term : ℕ → ℕ → ℕ
 term k x = mul (2 ^ k) (x / 2 ^ k % 2)
 
-abbrev sum8 : (x0 x1 x2 x3 x4 x5 x6 x7 : ℕ) → ℕ
+abbrev pub sum8 : (x0 x1 x2 x3 x4 x5 x6 x7 : ℕ) → ℕ
 sum8 x0 x1 x2 x3 x4 x5 x6 x7 = add (add (add (add x0 x1) x2) x3) (add (add (add x4 x5) x6) x7)
 
 bits-of : ℕ → ℕ
@@ -138,7 +138,7 @@ swap : (p a t : ℕ) → mul (mul p a) t ≡ mul a (mul p t)
 swap p a t = ap (λ (x : ℕ). mul x t) (mul-comm p a) ∙ mul-assoc a p t
 
 -- a cell times a, by the cell's bits
-cell-sum : (a x : ℕ) → x < 256
+pub cell-sum : (a x : ℕ) → x < 256
     → sum8 (mul (mul 1 a) (x / 2 ^ 0 % 2)) (mul (mul 2 a) (x / 2 ^ 1 % 2)) (mul (mul 4 a) (x / 2 ^ 2 % 2)) (mul (mul 8 a) (x / 2 ^ 3 % 2))
     (mul (mul 16 a) (x / 2 ^ 4 % 2)) (mul (mul 32 a) (x / 2 ^ 5 % 2)) (mul (mul 64 a) (x / 2 ^ 6 % 2)) (mul (mul 128 a) (x / 2 ^ 7 % 2))
     ≡ mul a x
@@ -149,7 +149,7 @@ cell-sum a x h =
     ∙ mul-sum8 a (term 0 x) (term 1 x) (term 2 x) (term 3 x) (term 4 x) (term 5 x) (term 6 x) (term 7 x)
     ∙ ap (mul a) (bits-all x h)
 
-abbrev padd8 : (l0 l1 l2 l3 l4 l5 l6 l7 : List ℕ) → List ℕ
+abbrev pub padd8 : (l0 l1 l2 l3 l4 l5 l6 l7 : List ℕ) → List ℕ
 padd8 l0 l1 l2 l3 l4 l5 l6 l7 = padd (padd (padd (padd l0 l1) l2) l3) (padd (padd (padd l4 l5) l6) l7)
 
 list-sum : (a : ℕ) (l : List ℕ) → Bytes l

@@ -1,8 +1,8 @@
 -- The extent of a list of cells: the cells from it on are zero and the one below is not, and that fixes it. In a word the leading zeros say which
 -- cell is the last.
-use mathlib.Core.Path.{_≡_, refl, sym, ap, _∙_, subst}
+use mathlib.Core.Path.{_≡_, sym, ap, _∙_, subst}
 use mathlib.Core.Logic.{_≢_, ⊎-elim}
-use mathlib.Core.List.{List, [], _∷_}
+use mathlib.Core.List.{List}
 use Prim.Native.Nat.{ℕ, zero, suc, _+_, _-_, _*_, _/_, _%_, _^_, _≤_, _<_}
 use native.Mathlib.Nat.{zero-add, suc-add, add-suc, add-zero, eq-or-lt-of-le, mod-eq-of-lt, le-trans, le-of-eq, le-of-suc-le-suc, pow-suc}
 use native.Mathlib.Omega.{arith}
@@ -15,6 +15,7 @@ use Rattle.code.specs.Search.{extent}
 use Rattle.code.proofs.Search.{extent-zero, extent-least}
 use Rattle.words.specs.Word.{byte, bytesFrom}
 use Rattle.words.specs.Cells.{padTo}
+use Rattle.words.proofs.Pad.{pad-same}
 
 -- ---- what fixes the extent
 
@@ -30,20 +31,11 @@ extent-last R p q =
     below : ZeroFrom (extent R - 1) R
     below k h = ⊎-elim (λ e. ap (λ (i : ℕ). getD R i 0) (sym e) ∙ q) (λ l. extent-zero R k (omega arith)) (eq-or-lt-of-le h)
 
-pad-at : (n : ℕ) (l : List ℕ) (k : ℕ) → length l ≤ n → getD (padTo n l) k 0 ≡ getD l k 0
-unfolding padTo
-pad-at zero [] k h = refl
-pad-at zero (x ∷ l) k h = absurd (omega arith)
-pad-at (suc n) [] zero h = refl
-pad-at (suc n) [] (suc k) h = pad-at n [] k (omega arith)
-pad-at (suc n) (x ∷ l) zero h = refl
-pad-at (suc n) (x ∷ l) (suc k) h = pad-at n l k (le-of-suc-le-suc h)
-
 -- zeros above do not count
 pub extent-pad : (n : ℕ) (R : List ℕ) → length R ≤ n → extent (padTo n R) ≡ extent R
 extent-pad n R h =
-    extent-unique (padTo n R) (extent R) (λ k l. pad-at n R k h ∙ extent-zero R k l)
-    (λ p q. extent-last R p (sym (pad-at n R (extent R - 1) h) ∙ q))
+    extent-unique (padTo n R) (extent R) (λ k l. pad-same n R h k ∙ extent-zero R k l)
+    (λ p q. extent-last R p (sym (pad-same n R h (extent R - 1)) ∙ q))
 
 -- ---- a word
 
@@ -52,7 +44,7 @@ bytes-at zero j k w h = absurd (omega arith)
 bytes-at (suc n) j zero w h = ap (byte w) (sym (add-zero j))
 bytes-at (suc n) j (suc k) w h = bytes-at n (suc j) k w (le-of-suc-le-suc h) ∙ ap (byte w) (suc-add j k ∙ sym (add-suc j k))
 
-byte-at : (k w : ℕ) → k < 8 → getD (bytesFrom 8 0 w) k 0 ≡ byte w k
+pub byte-at : (k w : ℕ) → k < 8 → getD (bytesFrom 8 0 w) k 0 ≡ byte w k
 byte-at k w h = bytes-at 8 0 k w h ∙ ap (byte w) (zero-add k)
 
 pub byte-above : (k m w : ℕ) → w < 2 ^ m → m ≤ 8 * k → byte w k ≡ 0

@@ -1,12 +1,14 @@
 -- A list of cells brought to n cells with zeros above it: its length, what it is for shorter and for whole lists, and that sums, multiples and
 -- shifts are kept. Each law is an induction along the list.
-use mathlib.Core.Path.{_≡_, refl, ap, ap₂, _∙_}
+use mathlib.Core.Path.{_≡_, refl, sym, ap, ap₂, _∙_}
+use mathlib.Core.Logic.{⊎-elim}
 use mathlib.Core.List.{List, [], _∷_, _++_}
 use Prim.Native.Nat.{ℕ, zero, suc, _+_, _-_, _≤_, _<_}
 use native.Mathlib.Nat.{suc-inj, le-of-suc-le-suc}
 use native.Mathlib.Omega.{arith}
-use lib.ListN.{length, getD, take, drop, replicate}
-use lib.Seq.{drop-drop}
+use lib.ListN.{length, getD, take, drop, set, replicate, List·getD-eq-default}
+use lib.Seq.{drop-drop, take-all, take-append-le}
+use Rattle.lists.proofs.Test.{lt-or-ge}
 use Rattle.field.specs.Field.{add, mul}
 use Rattle.field.proofs.Sum.{add-self, add-zero-l, add-zero-r}
 use Rattle.field.proofs.Product.{mul-zero}
@@ -49,11 +51,19 @@ pad-take zero l = refl
 pad-take (suc n) [] = refl
 pad-take (suc n) (x ∷ l) = ap (λ (t : List ℕ). x ∷ t) (pad-take n l)
 
-pub pad-first : (n : ℕ) (l : List ℕ) → 0 < n → getD (padTo n l) 0 0 ≡ getD l 0 0
+pub pad-at : (n : ℕ) (l : List ℕ) (k : ℕ) → k < n → getD (padTo n l) k 0 ≡ getD l k 0
 unfolding padTo
-pad-first zero l h = absurd (omega arith)
-pad-first (suc n) [] h = refl
-pad-first (suc n) (x ∷ l) h = refl
+pad-at zero l k h = absurd (omega arith)
+pad-at (suc n) [] zero h = refl
+pad-at (suc n) [] (suc k) h = pad-at n [] k (le-of-suc-le-suc h)
+pad-at (suc n) (x ∷ l) zero h = refl
+pad-at (suc n) (x ∷ l) (suc k) h = pad-at n l k (le-of-suc-le-suc h)
+
+-- a list of at most n cells: all cells
+pub pad-same : (n : ℕ) (l : List ℕ) → length l ≤ n → (k : ℕ) → getD (padTo n l) k 0 ≡ getD l k 0
+pad-same n l h k =
+    ⊎-elim (λ m. pad-at n l k m)
+    (λ m. List·getD-eq-default (padTo n l) 0 (omega (arith, pad-length n l)) ∙ sym (List·getD-eq-default l 0 (omega arith))) (lt-or-ge k n)
 
 pub pad-sum : (n : ℕ) (p q : List ℕ) → padd (padTo n p) (padTo n q) ≡ padTo n (padd p q)
 unfolding padTo padd
@@ -115,3 +125,17 @@ drop-pad m j n l h =
     ap (λ (t : List ℕ). padTo n (drop m t)) (pad-is n (drop j l) s)
     ∙ drop-more m n (n - length (drop j l)) (drop j l)
     ∙ ap (padTo n) (drop-drop m j l)
+
+-- a cell stored behind the list
+pub pad-snoc : (n : ℕ) (l : List ℕ) (c : ℕ) → length l < n → set (padTo n l) (length l) c ≡ padTo n (l ++ (c ∷ []))
+unfolding padTo
+pad-snoc zero l c h = absurd (omega arith)
+pad-snoc (suc n) [] c h = refl
+pad-snoc (suc n) (x ∷ l) c h = ap (λ (t : List ℕ). x ∷ t) (pad-snoc n l c (omega arith))
+
+-- the first cells, without the zeros above them
+pub take-pad : (k n : ℕ) (l : List ℕ) → k ≤ length l → length l ≤ n → take k (padTo n l) ≡ take k l
+take-pad k n l h m = ap (take k) (pad-is n l m) ∙ take-append-le k l (replicate (n - length l) 0) h
+
+pub pad-off : (n m : ℕ) (l : List ℕ) → length l ≡ n → n ≤ m → take n (padTo m l) ≡ l
+pad-off n m l e h = take-pad n m l (omega arith) (omega arith) ∙ take-all n l (omega arith)

@@ -13,7 +13,7 @@ use Rattle.words.specs.Word.{byte, bytesFrom}
 use Rattle.words.specs.Cells.{shiftUp, shiftDown}
 use Rattle.words.proofs.Linear.{shl, shr, dbl, byte-add, byte-low, up-first, up-next, down-last, down-next, bring-top, shl-byte, dbl-byte}
 
-byte-lt : (w k : ℕ) → byte w k < 256
+pub byte-lt : (w k : ℕ) → byte w k < 256
 unfolding byte
 byte-lt w k = mod-lt (w / 2 ^ (8 * k)) (omega arith)
 

@@ -92,14 +92,14 @@ pub fn word_extent(w: u64) -> usize
 
 /// a, 2 a, 4 a, .., 128 a.
 pub struct Doubles {
-    c0: u8,
-    c1: u8,
-    c2: u8,
-    c3: u8,
-    c4: u8,
-    c5: u8,
-    c6: u8,
-    c7: u8,
+    pub c0: u8,
+    pub c1: u8,
+    pub c2: u8,
+    pub c3: u8,
+    pub c4: u8,
+    pub c5: u8,
+    pub c6: u8,
+    pub c7: u8,
 }
 
 /// The doubles of a.

@@ -1,0 +1,10 @@
+pub mod Dot
+pub mod Roots
+pub mod Weigh
+pub mod Fill
+pub mod Weights
+pub mod Theorems
+pub mod Filling
+pub mod Registers
+pub mod Laying
+pub mod Words

@@ -1,0 +1,3 @@
+pub mod Filling
+pub mod Erasure
+pub mod Theorems

@@ -1,0 +1,3 @@
+pub mod Locator
+pub mod Theorems
+pub mod Answer

@@ -1,0 +1,18 @@
+-- A product and a sum.
+use mathlib.Core.Path.{ap₂, _∙_}
+use Rattle.code.specs.Poly.{padd}
+use Rattle.words.proofs.Words.{word-xor}
+use Rattle.products.proofs.horner_step.Statement.{statement}
+use Rattle.products.proofs.horner_step.Tie as tie
+
+spread-requires : tie.Need-spread-requires
+spread-requires c κs = tt
+
+times-doubles-requires : tie.Need-times-doubles-requires
+times-doubles-requires c κs = tt
+
+returns : tie.Need-returns
+returns c = λ x e. word-xor 8 0 _ _ ∙ ap₂ padd (c .before .spread .ensures) (c .times-doubles .ensures x e)
+
+pub horner-step-spec : {M : Type 1} → statement M
+horner-step-spec = tie.close (tie.spec spread-requires times-doubles-requires returns)

@@ -1,0 +1,3 @@
+pub mod Products
+pub mod Doubles
+pub mod Theorems
