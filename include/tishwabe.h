@@ -1,15 +1,15 @@
 /*
  * Film sheets for plot tallies: the C interface of the proved library (link target/staticlib/libcapi.a, made by `rt staticlib capi`).
- * "Document 01" is the specification, "Film sheets for plot tallies, and their mending".
+ * "Document 01" is the specification, "Film sheets for plot tallies, and their mending", "document 02" is "Later changes to the base".
  *
  * Units: a cell and a byte of a payload are one uint8_t each; every length counts bytes.
  *
  * Profile: n cells in a block (3 to 255), r check cells (2 to 64, below n), b the starting power (0 to 254), limit the longest run that may
  * be corrected (L, 0 to r - 1), depth the blocks in a sheet (D, 1 to 16). k = n - r, h = r / 2 rounded down.
  *
- * Result: 0 where accepted, or document 01's number of the refusal (the enum below); for the three listing functions a number of bytes.
+ * Result: 0 where accepted, or the documents' number of the refusal (the enum below); for the three listing functions a number of bytes.
  * Every number behind a pointer is written on each call, refused or accepted; where it has no meaning it is 0.
- * A refusal leaves every buffer as it was, but for the scratch of tishwabe_read_sheet.
+ * A refusal leaves every buffer as it was, but for the scratch of tishwabe_read_sheet and of tishwabe_read_sheet_spots.
  *
  * What the caller owes: each pointer is valid for the length that follows it (with length 0 nothing is read or written through it), each
  * pointer to a number is valid, and nothing that is written overlaps anything else passed to the same call. Every value of every number and
@@ -25,7 +25,7 @@
 extern "C" {
 #endif
 
-/* Document 01's numbers, with its words for them. */
+/* The documents' numbers, with their words for them: 1 to 10 are document 01's, 11 is document 02's. */
 enum tishwabe_refusal {
     TISHWABE_ACCEPTED = 0,
     TISHWABE_BAD_PROFILE = 1,   /* misprint: a profile number is outside its range */
@@ -37,7 +37,8 @@ enum tishwabe_refusal {
     TISHWABE_BAD_TALLY = 7,     /* bad tally: more than 40 lines, plot number 0, range or rise of lines, lent lines not 0 to 120 in threes */
     TISHWABE_PLOT_ORDER = 8,    /* plot order: plot number not above the one before */
     TISHWABE_NO_SUCH_PLOT = 9,  /* no such plot: payload accepted, plot absent */
-    TISHWABE_FULL = 10          /* full: the record needs more bytes than are left after the last record */
+    TISHWABE_FULL = 10,         /* full: the record needs more bytes than are left after the last record */
+    TISHWABE_TOO_MANY_ERRORS = 11 /* spotted: in spot mode, no codeword differs in at most h cells */
 };
 
 /* Longest payload that the functions on plots accept, in bytes. */
@@ -50,7 +51,7 @@ enum tishwabe_refusal {
  * rounded down, in both cases. */
 size_t tishwabe_profile(size_t n, size_t r, size_t b, size_t limit, size_t depth, size_t *k, size_t *h);
 
-/* ---- blocks: refusals 1 and 2, and 3 and 4 of the corrector; their place is 0 */
+/* ---- blocks: refusals 1 and 2, 3 and 4 of the corrector, and 11 of the corrector in spot mode; their place is 0 */
 
 /* Writes the block of a message: k bytes in, n cells out. */
 size_t tishwabe_write_block(size_t n, size_t r, size_t b, size_t limit, size_t depth,
@@ -68,6 +69,14 @@ size_t tishwabe_correct_block(size_t n, size_t r, size_t b, size_t limit, size_t
                               uint8_t *out, size_t out_length,         /* n */
                               size_t *start, size_t *length);
 
+/* Corrects a block in spot mode: the one codeword that differs from the read cells in at most h of them, wherever they lie, goes to out.
+ * *count is the number of cells changed and *lowest the lowest of them, 0 and 0 for a clean block. limit must be in its range and has no
+ * other effect. Refusals 1, 2 and 11. */
+size_t tishwabe_correct_spots(size_t n, size_t r, size_t b, size_t limit, size_t depth,
+                              const uint8_t *read, size_t read_length, /* n */
+                              uint8_t *out, size_t out_length,         /* n */
+                              size_t *count, size_t *lowest);
+
 /* ---- sheets */
 
 /* Writes a payload as a sheet. Refusals 1 and 2. */
@@ -83,6 +92,14 @@ size_t tishwabe_read_sheet(size_t n, size_t r, size_t b, size_t limit, size_t de
                            uint8_t *scratch, size_t scratch_length,     /* D * n */
                            uint8_t *payload, size_t payload_length,     /* D * k */
                            size_t *changed, size_t *place);
+
+/* Reads a sheet in spot mode: each block as by tishwabe_correct_spots, all else as in tishwabe_read_sheet. Refusals 1, 2 and 11; *place is the
+ * number of the lowest block that is refused by 11, and else 0. */
+size_t tishwabe_read_sheet_spots(size_t n, size_t r, size_t b, size_t limit, size_t depth,
+                                 const uint8_t *sheet, size_t sheet_length,   /* D * n */
+                                 uint8_t *scratch, size_t scratch_length,     /* D * n */
+                                 uint8_t *payload, size_t payload_length,     /* D * k */
+                                 size_t *changed, size_t *place);
 
 /* ---- plot records in a payload of 0 to 4,048 bytes */
 

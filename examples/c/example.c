@@ -1,4 +1,5 @@
-/* Writes a sheet with two plots, damages it, reads it back, asks for a plot, and lists the sheet as the plot lister does. */
+/* Writes a sheet with two plots, damages it, reads it back, asks for a plot, and lists the sheet as the plot lister does; then the same sheet with
+ * mould is read in spot mode. */
 #include <stdio.h>
 #include <string.h>
 
@@ -15,11 +16,16 @@ static void print_record(const uint8_t *record, size_t length) {
     }
 }
 
+/* tishwabe_read_sheet or tishwabe_read_sheet_spots. */
+typedef size_t reader(size_t n, size_t r, size_t b, size_t limit, size_t depth, const uint8_t *sheet, size_t sheet_length,
+                      uint8_t *scratch, size_t scratch_length, uint8_t *payload, size_t payload_length,
+                      size_t *changed, size_t *place);
+
 /* Reads the sheet and prints plot 300. */
-static void read_back(const uint8_t *sheet) {
+static void read_back(reader *read, const uint8_t *sheet) {
     uint8_t scratch[D * N], payload[D * K] = {0};
     size_t changed, place, length;
-    size_t number = tishwabe_read_sheet(PROFILE, sheet, D * N, scratch, D * N, payload, D * K, &changed, &place);
+    size_t number = read(PROFILE, sheet, D * N, scratch, D * N, payload, D * K, &changed, &place);
     if (number != TISHWABE_ACCEPTED) {
         printf("refused: %zu, place %zu\n", number, place);
         return;
@@ -35,6 +41,27 @@ static void list_sheet(const uint8_t *sheet) {
     uint8_t input[5 + D * N] = {PROFILE}, text[TISHWABE_LONGEST_TEXT];
     memcpy(input + 5, sheet, D * N);
     fwrite(text, 1, tishwabe_list_input(input, sizeof input, text, sizeof text), stdout);
+}
+
+/* R / 2 spots in every block, five cells apart: scratch mode refuses the sheet, spot mode reads it. */
+static void read_with_mould(uint8_t *sheet) {
+    uint8_t block[N], codeword[N];
+    size_t i, number, count, lowest;
+    for (i = 2; i < N; i += N / (R / 2)) {
+        sheet[i * D] ^= 1;
+        sheet[i * D + 1] ^= 85;
+        sheet[i * D + 2] ^= 255;
+    }
+    read_back(tishwabe_read_sheet, sheet);
+    read_back(tishwabe_read_sheet_spots, sheet);
+    for (i = 0; i < N; i++) {
+        block[i] = sheet[i * D];
+    }
+    number = tishwabe_correct_spots(PROFILE, block, N, codeword, N, &count, &lowest);
+    printf("block 0: answer %zu, %zu cells changed, the lowest is cell %zu\n", number, count, lowest);
+    block[0] ^= 1; /* one spot too many */
+    number = tishwabe_correct_spots(PROFILE, block, N, codeword, N, &count, &lowest);
+    printf("block 0 with one more: answer %zu, %zu, %zu\n", number, count, lowest);
 }
 
 int main(void) {
@@ -53,12 +80,16 @@ int main(void) {
 
     number = tishwabe_write_sheet(PROFILE, payload, D * K, sheet, D * N);
     printf("written: answer %zu\n", number);
-    read_back(sheet);
+    read_back(tishwabe_read_sheet, sheet);
     memset(sheet + 10, 255, D * (R / 2)); /* a scratch of D * h cells */
-    read_back(sheet);
+    read_back(tishwabe_read_sheet, sheet);
     list_sheet(sheet);
     memset(sheet + 40, 255, D * N - 40); /* a second scratch */
-    read_back(sheet);
+    read_back(tishwabe_read_sheet, sheet);
     list_sheet(sheet);
+
+    number = tishwabe_write_sheet(PROFILE, payload, D * K, sheet, D * N);
+    printf("written again: answer %zu\n", number);
+    read_with_mould(sheet);
     return 0;
 }

@@ -27,7 +27,7 @@ use Rattle.register.proofs.Generator.{monic-generator}
 use Rattle.words.proofs.LastCell.{extent-pad}
 use Rattle.register.proofs.Remainder.{remainder-feeds, check-cells}
 use Rattle.profile.specs.Profile.{InRange, inRange, messageLength}
-use Rattle.block.specs.Block.{checkCells, encode, isClean, verdict, filled, checkAnswer, writeFits, writeAnswer, writeLeaves, correctFits, correctAnswer, correctLeaves}
+use Rattle.block.specs.Block.{checkCells, encode, isClean, verdict, filled, readRemainder, checkAnswer, writeFits, writeAnswer, writeLeaves, correctFits, correctAnswer, correctLeaves}
 use Rattle.block.specs.Found.{generatorOnTop}
 use Rattle.block.specs.declared.Verdict.{Verdict}
 use Rattle.block.specs.declared.Verdict.the-variants as verdicts
@@ -114,6 +114,21 @@ module _ (p : Profile) (v : InRange p) where
             ap₂ (λ (c : List ℕ) (j : ℕ). getD c j 0) q (sym i) ∙ getD-append-add R (replicate (64 - length R) 0) (k - p .r) 0 ∙ getD-zeros (64 - length R) (k - p .r)),
         ap (take (p .r)) q ∙ take-at R _ (p .r) l,
       )
+
+-- ---- the remainder
+
+module _ (p : Profile) (y : List ℕ) where
+  pub remainder-one : inRange p ≡ false → replicate 64 0 ≡ readRemainder p y
+  unfolding readRemainder
+  remainder-one e = refuse-one p _ _ _ _ e
+
+  pub remainder-two : inRange p ≡ true → (length y ≡ p .n → ⊥) → replicate 64 0 ≡ readRemainder p y
+  unfolding readRemainder
+  remainder-two v h = refuse-two p _ _ _ _ v (ne-eqb _ _ h)
+
+  pub remainder-rest : inRange p ≡ true → length y ≡ p .n → (Z : List ℕ) → Z ≡ padTo 64 (remainder (p .r) (generator (p .b) (p .r)) y) → Z ≡ readRemainder p y
+  unfolding readRemainder
+  remainder-rest v h Z e = e ∙ accept p _ _ _ _ v (eq-eqb _ _ h)
 
 -- ---- the checker
 

@@ -1,31 +1,31 @@
--- Which answer has which number and values. Each goes by the cases of the answer.
+-- Which answer has which number and values. Each goes by the cases of the answer, or by the three cases of the verdict on n cells.
 use mathlib.Core.Path.{_≡_, refl}
 use mathlib.Core.Logic.{_≢_}
+use mathlib.Core.Bool.{Bool, true, false}
 use mathlib.Core.List.{List, []}
 use Prim.Native.Nat.{ℕ, _≤_}
 use native.Mathlib.Omega.{arith}
-use Rattle.block.specs.Block.{filled}
-use Rattle.block.specs.Numbers.{verdictNumber, verdictStart, verdictLength, checkedNumber, checkedClean}
+use lib.Dec.{eqb, ltb}
+use Rattle.lists.specs.Choice.{pick}
+use Rattle.code.specs.Code.{generator, remainder}
+use Rattle.code.specs.Search.{Best, extent, extents, scanned}
+use Rattle.block.specs.Block.{decided, judged, verdict, filled}
+use Rattle.block.specs.Numbers.{verdictNumber, verdictStart, verdictLength, verdictCount, verdictLowest, checkedNumber, checkedClean}
 use Rattle.profile.specs.declared.Profile.{Profile}
 use Rattle.block.specs.declared.Verdict.{Verdict}
-use Rattle.block.specs.declared.Verdict.the-variants.{BadProfile, WrongLength, Uncorrectable, Ambiguous, Corrected}
+use Rattle.block.specs.declared.Verdict.the-variants.{BadProfile, WrongLength, Uncorrectable, Ambiguous, Corrected, TooManyErrors, CorrectedCells}
 use Rattle.block.specs.declared.Checked.{Checked}
 use Rattle.block.specs.declared.Checked.the-variants as checks
 
--- 0, 3 and 4 are of one verdict each
-pub number-0 : (w : Verdict) → verdictNumber w ≡ 0 → w ≡ Corrected (verdictStart w) (verdictLength w)
-number-0 BadProfile e = absurd (omega arith)
-number-0 WrongLength e = absurd (omega arith)
-number-0 Uncorrectable e = absurd (omega arith)
-number-0 Ambiguous e = absurd (omega arith)
-number-0 (Corrected s f) e = refl
-
+-- 3 and 4 are of one verdict each
 pub number-3 : (w : Verdict) → verdictNumber w ≡ 3 → w ≡ Uncorrectable
 number-3 BadProfile e = absurd (omega arith)
 number-3 WrongLength e = absurd (omega arith)
 number-3 Uncorrectable e = refl
 number-3 Ambiguous e = absurd (omega arith)
 number-3 (Corrected s f) e = absurd (omega arith)
+number-3 TooManyErrors e = absurd (omega arith)
+number-3 (CorrectedCells t j) e = absurd (omega arith)
 
 pub number-4 : (w : Verdict) → verdictNumber w ≡ 4 → w ≡ Ambiguous
 number-4 BadProfile e = absurd (omega arith)
@@ -33,31 +33,35 @@ number-4 WrongLength e = absurd (omega arith)
 number-4 Uncorrectable e = absurd (omega arith)
 number-4 Ambiguous e = refl
 number-4 (Corrected s f) e = absurd (omega arith)
+number-4 TooManyErrors e = absurd (omega arith)
+number-4 (CorrectedCells t j) e = absurd (omega arith)
 
-pub number-most : (w : Verdict) → verdictNumber w ≤ 4
+pub number-most : (w : Verdict) → verdictNumber w ≤ 11
 number-most BadProfile = omega arith
 number-most WrongLength = omega arith
 number-most Uncorrectable = omega arith
 number-most Ambiguous = omega arith
 number-most (Corrected s f) = omega arith
+number-most TooManyErrors = omega arith
+number-most (CorrectedCells t j) = omega arith
 
--- beside a refusal start and length are 0
-pub no-run : (w : Verdict) → verdictNumber w ≢ 0 → (verdictStart w ≡ 0) × (verdictLength w ≡ 0)
-no-run BadProfile n = (refl, refl)
-no-run WrongLength n = (refl, refl)
-no-run Uncorrectable n = (refl, refl)
-no-run Ambiguous n = (refl, refl)
-no-run (Corrected s f) n = absurd (n refl)
+-- beside a refusal every value is 0
+pub record NoValues (w : Verdict) : Type 0 where
+  pub start : verdictStart w ≡ 0
+  pub size : verdictLength w ≡ 0
+  pub count : verdictCount w ≡ 0
+  pub lowest : verdictLowest w ≡ 0
 
--- a verdict with a codeword writes it over whatever stood there, and a refusal writes nothing
-pub filled-alike : (p : Profile) (y out : List ℕ) (w : Verdict) → verdictNumber w ≡ 0 → filled p y out w ≡ filled p y [] w
-unfolding filled
-filled-alike p y out BadProfile e = absurd (omega arith)
-filled-alike p y out WrongLength e = absurd (omega arith)
-filled-alike p y out Uncorrectable e = absurd (omega arith)
-filled-alike p y out Ambiguous e = absurd (omega arith)
-filled-alike p y out (Corrected s f) e = refl
+pub no-values : (w : Verdict) → verdictNumber w ≢ 0 → NoValues w
+no-values BadProfile n = record { start = refl; size = refl; count = refl; lowest = refl }
+no-values WrongLength n = record { start = refl; size = refl; count = refl; lowest = refl }
+no-values Uncorrectable n = record { start = refl; size = refl; count = refl; lowest = refl }
+no-values Ambiguous n = record { start = refl; size = refl; count = refl; lowest = refl }
+no-values (Corrected s f) n = absurd (n refl)
+no-values TooManyErrors n = record { start = refl; size = refl; count = refl; lowest = refl }
+no-values (CorrectedCells t j) n = absurd (n refl)
 
+-- a refusal writes nothing
 pub filled-kept : (p : Profile) (y out : List ℕ) (w : Verdict) → verdictNumber w ≢ 0 → filled p y out w ≡ out
 unfolding filled
 filled-kept p y out BadProfile n = refl
@@ -65,6 +69,45 @@ filled-kept p y out WrongLength n = refl
 filled-kept p y out Uncorrectable n = refl
 filled-kept p y out Ambiguous n = refl
 filled-kept p y out (Corrected s f) n = absurd (n refl)
+filled-kept p y out TooManyErrors n = refl
+filled-kept p y out (CorrectedCells t j) n = absurd (n refl)
+
+-- ---- the verdict on n cells is one of three
+
+chosen : (P : Verdict → Type 0) → P Uncorrectable → P Ambiguous → ((s f : ℕ) → P (Corrected s f)) → (clean long again : Bool) (s f : ℕ)
+    → P (pick clean (Corrected 0 0) (pick long Uncorrectable (pick again Ambiguous (Corrected s f))))
+chosen P none two one true long again s f = one 0 0
+chosen P none two one false true again s f = none
+chosen P none two one false false true s f = two
+chosen P none two one false false false s f = one s f
+
+pub verdict-of : (P : Verdict → Type 0) → P Uncorrectable → P Ambiguous → ((s f : ℕ) → P (Corrected s f)) → (p : Profile) (y : List ℕ) → P (verdict p y)
+unfolding verdict judged decided
+verdict-of P none two one p y =
+    let R : List ℕ = remainder (p .r) (generator (p .b) (p .r)) y in
+    let k : Best = scanned (extents (generator (p .b) (p .r)) R) (p .n) (p .limit) (p .n) in
+    chosen P none two one (eqb (extent R) 0) (ltb (p .limit) (k .size)) (k .again) (k .start) (k .size)
+
+-- so that of number 0 is the corrected one
+pub verdict-0 : (p : Profile) (y : List ℕ) → verdictNumber (verdict p y) ≡ 0 → verdict p y ≡ Corrected (verdictStart (verdict p y)) (verdictLength (verdict p y))
+verdict-0 =
+    verdict-of (λ (w : Verdict). verdictNumber w ≡ 0 → w ≡ Corrected (verdictStart w) (verdictLength w)) (λ e. absurd (omega arith)) (λ e. absurd (omega arith))
+    (λ s f e. refl)
+
+-- it has no number 1 or 2
+pub verdict-late : (p : Profile) (y : List ℕ) → (verdictNumber (verdict p y) ≢ 1) × (verdictNumber (verdict p y) ≢ 2)
+verdict-late =
+    verdict-of (λ (w : Verdict). (verdictNumber w ≢ 1) × (verdictNumber w ≢ 2)) ((λ q. omega arith), (λ q. omega arith)) ((λ q. omega arith), (λ q. omega arith))
+    (λ s f. ((λ q. omega arith), (λ q. omega arith)))
+
+-- and writes its codeword over whatever stood there
+pub filled-alike : (p : Profile) (y out : List ℕ) → verdictNumber (verdict p y) ≡ 0 → filled p y out (verdict p y) ≡ filled p y [] (verdict p y)
+unfolding filled
+filled-alike p y out =
+    verdict-of (λ (w : Verdict). verdictNumber w ≡ 0 → filled p y out w ≡ filled p y [] w) (λ e. absurd (omega arith)) (λ e. absurd (omega arith)) (λ s f e. refl)
+    p y
+
+-- ---- checking
 
 -- beside a refusal the checker's flag is 0
 pub not-called : (w : Checked) → checkedNumber w ≢ 0 → checkedClean w ≡ 0

@@ -6,17 +6,16 @@ use mathlib.Core.Bool.{Bool, true, false}
 use mathlib.Core.List.{List}
 use Prim.Native.Nat.{ℕ, _<_}
 use native.Mathlib.Omega.{arith}
-use lib.Dec.{eqb, ltb}
+use lib.Dec.{eqb}
 use lib.ListN.{length, drop}
 use borrow.Author.Tests.{eq-eqb, eqb-true}
 use Rattle.lists.specs.Choice.{pick, both}
 use Rattle.lists.proofs.Test.{true-or-false, both-true, pick-of}
-use Rattle.code.specs.Code.{syndrome, generator, remainder}
-use Rattle.code.specs.Search.{Best, extent, extents, scanned}
+use Rattle.code.specs.Code.{syndrome}
 use Rattle.code.proofs.Division.{codeword-syndromes, syndromes-codeword}
 use Rattle.profile.specs.Profile.{InRange, messageLength}
 use Rattle.profile.specs.Refusals.{refusing}
-use Rattle.block.specs.Block.{encode, isClean, decided, judged, verdict, corrected, filled, writeFits, writeAnswer, writeLeaves, checkAnswer, correctFits, correctAnswer, correctLeaves}
+use Rattle.block.specs.Block.{encode, isClean, verdict, corrected, filled, writeFits, writeAnswer, writeLeaves, checkAnswer, correctFits, correctAnswer, correctLeaves}
 use Rattle.block.specs.Numbers.{verdictNumber, verdictStart, verdictLength, writtenNumber, checkedNumber, checkedClean}
 use Rattle.block.specs.Runs.{Cells, Word, OneReached}
 use Rattle.block.specs.Promises.{WritesCodeword, CleanIff, LentBlock, UncorrectableIff, AmbiguousIff, Corrects, CorrectedIff, HalfPromise, DepthFree, WriteRefusals, CheckRefusals, CorrectRefusals, BlockRefusals}
@@ -28,7 +27,7 @@ use Rattle.block.specs.declared.Checked.{Checked}
 use Rattle.block.specs.declared.Checked.the-variants as checks
 use Rattle.profile.proofs.Ranges.{in-range}
 use Rattle.profile.proofs.Refusing.{early-of, kept-of}
-use Rattle.block.proofs.NumberLaws.{number-0, number-3, number-4, no-run, not-called}
+use Rattle.block.proofs.NumberLaws.{number-3, number-4, verdict-0, verdict-late, no-values, not-called}
 use Rattle.block.proofs.Shortest.{clean-word, word-clean}
 use Rattle.block.proofs.Encoding.{encode-message, encode-codeword, same-message}
 use Rattle.block.proofs.Verdicts.{verdict-none, verdict-two, verdict-one, verdict-half, same-verdict, same-filled}
@@ -103,7 +102,8 @@ module _ (p : Profile) (y out : List ℕ) (v : InRange p) (h : LentBlock p y out
 
   corrects-there : (s f : ℕ) (c : List ℕ) → Corrects p y out s f c → OneReached p y s f c
   corrects-there s f c k =
-      let w : verdict p y ≡ verdicts.Corrected s f = sym is-verdict ∙ number-0 answer (k .accepted) ∙ ap₂ verdicts.Corrected (k .start) (k .size) in
+      let e : answer ≡ verdict p y = is-verdict in
+      let w : verdict p y ≡ verdicts.Corrected s f = verdict-0 p y (ap verdictNumber (sym e) ∙ k .accepted) ∙ ap₂ verdicts.Corrected (ap verdictStart (sym e) ∙ k .start) (ap verdictLength (sym e) ∙ k .size) in
       verdict-one p y s f c v (h .cells) .0 (w, sym (leaves-word s f w) ∙ k .leaves)
 
   corrects-back : (s f : ℕ) (c : List ℕ) → OneReached p y s f c → Corrects p y out s f c
@@ -185,24 +185,6 @@ module _ (p : Profile) (y : List ℕ) where
     flag = not-called (checkAnswer p y);
   }
 
--- the verdict is none of the first two refusals
-abbrev pub Late : Verdict → Type 0
-Late w = (verdictNumber w ≢ 1) × (verdictNumber w ≢ 2)
-
-chosen-late : (clean long again : Bool) (s f : ℕ)
-    → Late (pick clean (verdicts.Corrected 0 0) (pick long verdicts.Uncorrectable (pick again verdicts.Ambiguous (verdicts.Corrected s f))))
-chosen-late true long again s f = (λ q. omega arith, λ q. omega arith)
-chosen-late false true again s f = (λ q. omega arith, λ q. omega arith)
-chosen-late false false true s f = (λ q. omega arith, λ q. omega arith)
-chosen-late false false false s f = (λ q. omega arith, λ q. omega arith)
-
-pub verdict-late : (p : Profile) (y : List ℕ) → Late (verdict p y)
-unfolding verdict judged decided
-verdict-late p y =
-    let R : List ℕ = remainder (p .r) (generator (p .b) (p .r)) y in
-    let k : Best = scanned (extents (generator (p .b) (p .r)) R) (p .n) (p .limit) (p .n) in
-    chosen-late (eqb (extent R) 0) (ltb (p .limit) (k .size)) (k .again) (k .start) (k .size)
-
 module _ (p : Profile) (y out : List ℕ) where
   correct-refusals : CorrectRefusals p y out
   unfolding correctAnswer correctFits
@@ -212,7 +194,7 @@ module _ (p : Profile) (y out : List ℕ) where
         (verdict-late p y .0) (verdict-late p y .1);
     place = refl;
     kept = block-kept p y out;
-    run = no-run (correctAnswer p y out);
+    run = λ n. let z = no-values (correctAnswer p y out) n in (z .start, z .size);
   }
 
 pub block-refusals : (p : Profile) → BlockRefusals p

@@ -20,7 +20,7 @@ use Rattle.block.specs.Runs.{Cells, Word, Reached, NoneReached, TwoReach
 use Rattle.block.specs.Promises.{ExactlyOne}
 use Rattle.profile.specs.declared.Profile.{Profile}
 use Rattle.block.specs.declared.Verdict.{Verdict}
-use Rattle.block.specs.declared.Verdict.the-variants.{BadProfile, WrongLength, Uncorrectable, Ambiguous, Corrected}
+use Rattle.block.specs.declared.Verdict.the-variants.{BadProfile, WrongLength, Uncorrectable, Ambiguous, Corrected, TooManyErrors, CorrectedCells}
 use Rattle.block.proofs.Shortest.{empty-run, word, best, e, scan, reach-word, extent-reach, clean-word, word-clean, clean-verdict, wrong-verdict, reach-start, reach-size, small, best-reach, best-least, at-size, apart}
 
 -- three verdicts that differ
@@ -294,6 +294,8 @@ module _ (p q : Profile) (y : List ℕ) (en : p .n ≡ q .n) (er : p .r ≡ q .r
   same-filled out WrongLength = refl
   same-filled out Uncorrectable = refl
   same-filled out Ambiguous = refl
+  same-filled out TooManyErrors = refl
+  same-filled out (CorrectedCells t j) = refl
 
 -- where L ≥ h, a codeword within a run of at most h cells is the block's
 pub verdict-half : (p : Profile) (y : List ℕ) (s f : ℕ) (c : List ℕ) → InRange p → Cells p y → half p ≤ p .limit → f ≤ half p → Reached p y s f c

@@ -9,6 +9,7 @@ use Rattle.lists.specs.Choice.{pick, both}
 use Rattle.code.specs.Code.{generator, remainder}
 use Rattle.code.specs.Run.{shiftedRemainder, addedAt}
 use Rattle.code.specs.Search.{Best, extent, extents, scanned}
+use Rattle.words.specs.Cells.{padTo}
 use Rattle.profile.specs.Profile.{messageLength}
 use Rattle.profile.specs.Refusals.{refusing}
 use Rattle.profile.specs.declared.Profile.{Profile}
@@ -41,6 +42,11 @@ writeLeaves p m out = refusing p (writeFits p m out) out out (encode (p .b) (p .
 
 -- ---- checking
 
+-- the remainder of n read cells, as the lowest r of 64; zeros beside refusals 1 and 2
+unfoldable pub readRemainder : Profile → List ℕ → List ℕ
+readRemainder p y =
+    refusing p (eqb (length y) (p .n)) (replicate 64 0) (replicate 64 0) (padTo 64 (remainder (p .r) (generator (p .b) (p .r)) y))
+
 -- "called clean": all r cells of the remainder are zero, which is exactly where all syndromes are (Promises.antt, CleanIff)
 unfoldable pub isClean : ℕ → ℕ → List ℕ → Bool
 isClean b r y = eqb (extent (remainder r (generator b r) y)) 0
@@ -65,13 +71,15 @@ judged p R =
 unfoldable pub verdict : Profile → List ℕ → Verdict
 verdict p y = judged p (remainder (p .r) (generator (p .b) (p .r)) y)
 
--- what a verdict writes over the cells of out: the codeword, where there is one
+-- what a verdict writes over the cells of out: the codeword within the run, where there is one
 unfoldable pub filled : Profile → List ℕ → List ℕ → Verdict → List ℕ
 filled p y out (verdicts.Corrected s f) = addedAt s (take f (shiftedRemainder (p .b) (p .r) s y)) y
 filled p y out verdicts.BadProfile = out
 filled p y out verdicts.WrongLength = out
 filled p y out verdicts.Uncorrectable = out
 filled p y out verdicts.Ambiguous = out
+filled p y out verdicts.TooManyErrors = out
+filled p y out (verdicts.CorrectedCells count lowest) = out
 
 -- the codeword of a corrected block, "its mended cells"
 unfoldable pub corrected : Profile → List ℕ → List ℕ

@@ -1,5 +1,5 @@
--- Document 01's number, place and values of each answer of an entry on a block (E5). The promises are stated through these, and the functions that
--- hand them out have them as contracts. A lone block's refusal has place 0 ("else 0"), and a value that an answer does not have is 0.
+-- The documents' number, place and values of each answer of an entry on a block (E5; document 02, Note 1). The promises are stated through these, and the
+-- functions that hand them out have them as contracts. A lone block's refusal has place 0 ("else 0"), and a value that an answer does not have is 0.
 use Prim.Native.Nat.{ℕ}
 use Rattle.block.specs.declared.Verdict.{Verdict}
 use Rattle.block.specs.declared.Verdict.the-variants as verdicts
@@ -8,7 +8,7 @@ use Rattle.block.specs.declared.Written.the-variants as writes
 use Rattle.block.specs.declared.Checked.{Checked}
 use Rattle.block.specs.declared.Checked.the-variants as checks
 
--- ---- correcting: 1 misprint, 2 wrong frame, 3 torn, 4 tied, or 0 for a block that is mended or clean
+-- ---- correcting: 1 misprint, 2 wrong frame, 3 torn, 4 tied, 11 spotted, or 0 for a block that is mended or clean
 
 abbrev pub verdictNumber : Verdict → ℕ
 verdictNumber verdicts.BadProfile = 1
@@ -16,6 +16,8 @@ verdictNumber verdicts.WrongLength = 2
 verdictNumber verdicts.Uncorrectable = 3
 verdictNumber verdicts.Ambiguous = 4
 verdictNumber (verdicts.Corrected s f) = 0
+verdictNumber verdicts.TooManyErrors = 11
+verdictNumber (verdicts.CorrectedCells count lowest) = 0
 
 abbrev pub verdictPlace : Verdict → ℕ
 verdictPlace answer = 0
@@ -27,6 +29,8 @@ verdictStart verdicts.BadProfile = 0
 verdictStart verdicts.WrongLength = 0
 verdictStart verdicts.Uncorrectable = 0
 verdictStart verdicts.Ambiguous = 0
+verdictStart verdicts.TooManyErrors = 0
+verdictStart (verdicts.CorrectedCells count lowest) = 0
 
 abbrev pub verdictLength : Verdict → ℕ
 verdictLength (verdicts.Corrected s f) = f
@@ -34,6 +38,27 @@ verdictLength verdicts.BadProfile = 0
 verdictLength verdicts.WrongLength = 0
 verdictLength verdicts.Uncorrectable = 0
 verdictLength verdicts.Ambiguous = 0
+verdictLength verdicts.TooManyErrors = 0
+verdictLength (verdicts.CorrectedCells count lowest) = 0
+
+-- "the number of cells changed and the lowest of them"
+abbrev pub verdictCount : Verdict → ℕ
+verdictCount (verdicts.CorrectedCells count lowest) = count
+verdictCount verdicts.BadProfile = 0
+verdictCount verdicts.WrongLength = 0
+verdictCount verdicts.Uncorrectable = 0
+verdictCount verdicts.Ambiguous = 0
+verdictCount (verdicts.Corrected s f) = 0
+verdictCount verdicts.TooManyErrors = 0
+
+abbrev pub verdictLowest : Verdict → ℕ
+verdictLowest (verdicts.CorrectedCells count lowest) = lowest
+verdictLowest verdicts.BadProfile = 0
+verdictLowest verdicts.WrongLength = 0
+verdictLowest verdicts.Uncorrectable = 0
+verdictLowest verdicts.Ambiguous = 0
+verdictLowest (verdicts.Corrected s f) = 0
+verdictLowest verdicts.TooManyErrors = 0
 
 -- ---- writing, a block or a sheet: 1 misprint, 2 wrong frame, or 0
 

@@ -10,7 +10,7 @@ ghost use Rattle.code.specs.Run.{ZeroFrom};
 ghost use Rattle.register.specs.Words.{cells};
 ghost use Rattle.words.specs.Cells.{padTo};
 ghost use Rattle.profile.specs.Profile.{InRange, messageLength};
-ghost use Rattle.block.specs.Block.{checkCells, isClean, verdict, filled, writeAnswer, writeLeaves, checkAnswer, correctAnswer, correctLeaves};
+ghost use Rattle.block.specs.Block.{checkCells, isClean, verdict, filled, writeAnswer, writeLeaves, readRemainder, checkAnswer, correctAnswer, correctLeaves};
 ghost use Rattle.block.specs.Found.{generatorOnTop, improvedBy, Searched};
 use profile::Profile;
 use register::Register;
@@ -18,14 +18,17 @@ use register::Register;
 mod fill;
 mod numbers;
 
-/// What correcting a block answers. Document 01 calls the cases misprint, wrong frame, torn, tied, and mended (or clean); `length` cells
-/// from `start` on are "the result s and f".
+/// What correcting a block answers, in every mode. Document 01 calls the cases misprint, wrong frame, torn, tied, and mended (or clean);
+/// `length` cells from `start` on are "the result s and f". The last two are of document 02, Note 1: spotted, and mended (or clean) with
+/// `count` cells changed, of which `lowest` is the lowest; `correct` never answers them.
 pub enum Verdict {
     BadProfile,
     WrongLength,
     Uncorrectable,
     Ambiguous,
     Corrected { start: usize, length: usize },
+    TooManyErrors,
+    CorrectedCells { count: usize, lowest: usize },
 }
 
 /// What writing a block or a sheet answers: misprint, wrong frame, or that it is written.
@@ -99,6 +102,19 @@ fn remainder_of(p: Profile, g: Register, read: &[u8]) -> Register
     let r = p.r;
     let checks = message_checks(p, g, &read[r..]);
     register::add(register::load(&read[..r]), checks)
+}
+
+/// The remainder of a block by the generator, as the lowest r cells of the register; the zero register beside refusals 1 and 2.
+pub fn remainder(p: Profile, read: &[u8]) -> Register
+    ensures { λ z. ⌜ cells z ≡ readRemainder p (now (read .entry)) ⌝ }
+{
+    if !p.in_range() {
+        return register::blank();
+    }
+    if read.len() != p.n {
+        return register::blank();
+    }
+    remainder_of(p, generator_of(p), read)
 }
 
 /// Whether a block is a codeword.

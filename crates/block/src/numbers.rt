@@ -1,12 +1,12 @@
-// Document 01's number, place and values of each answer. Each function is one match, and its contract is the definition of specs/Numbers.antt.
+// The documents' number, place and values of each answer. Each function is one match, and its contract is the definition of specs/Numbers.antt.
 use crate::Checked;
 use crate::Verdict;
 use crate::Written;
 ghost use mathlib.Core.Path.{_≡_};
-ghost use Rattle.block.specs.Numbers.{verdictNumber, verdictPlace, verdictStart, verdictLength, writtenNumber, writtenPlace, checkedNumber, checkedPlace, checkedClean};
+ghost use Rattle.block.specs.Numbers.{verdictNumber, verdictPlace, verdictStart, verdictLength, verdictCount, verdictLowest, writtenNumber, writtenPlace, checkedNumber, checkedPlace, checkedClean};
 
 impl Verdict {
-    /// 1 to 4, or 0 for a corrected block.
+    /// 1 to 4, or 11, or 0 for a corrected block.
     pub fn number(self) -> usize
         ensures { λ r. ⌜ r ≡ verdictNumber self ⌝ }
     {
@@ -19,6 +19,11 @@ impl Verdict {
                 start: _,
                 length: _,
             } => 0,
+            Verdict::TooManyErrors => 11,
+            Verdict::CorrectedCells {
+                count: _,
+                lowest: _,
+            } => 0,
         }
     }
 
@@ -29,7 +34,7 @@ impl Verdict {
         0
     }
 
-    /// The start of a corrected block's run; 0 beside a refusal.
+    /// The start of a corrected block's run; 0 beside any other answer.
     pub fn start(self) -> usize
         ensures { λ r. ⌜ r ≡ verdictStart self ⌝ }
     {
@@ -39,10 +44,15 @@ impl Verdict {
             Verdict::WrongLength => 0,
             Verdict::Uncorrectable => 0,
             Verdict::Ambiguous => 0,
+            Verdict::TooManyErrors => 0,
+            Verdict::CorrectedCells {
+                count: _,
+                lowest: _,
+            } => 0,
         }
     }
 
-    /// The length of a corrected block's run; 0 beside a refusal.
+    /// The length of a corrected block's run; 0 beside any other answer.
     pub fn length(self) -> usize
         ensures { λ r. ⌜ r ≡ verdictLength self ⌝ }
     {
@@ -52,6 +62,47 @@ impl Verdict {
             Verdict::WrongLength => 0,
             Verdict::Uncorrectable => 0,
             Verdict::Ambiguous => 0,
+            Verdict::TooManyErrors => 0,
+            Verdict::CorrectedCells {
+                count: _,
+                lowest: _,
+            } => 0,
+        }
+    }
+
+    /// The number of cells changed, where cells anywhere in the block may change; 0 beside any other answer.
+    pub fn count(self) -> usize
+        ensures { λ r. ⌜ r ≡ verdictCount self ⌝ }
+    {
+        match self {
+            Verdict::CorrectedCells { count, lowest: _ } => count,
+            Verdict::BadProfile => 0,
+            Verdict::WrongLength => 0,
+            Verdict::Uncorrectable => 0,
+            Verdict::Ambiguous => 0,
+            Verdict::Corrected {
+                start: _,
+                length: _,
+            } => 0,
+            Verdict::TooManyErrors => 0,
+        }
+    }
+
+    /// The lowest of these cells; 0 where none is changed, and beside any other answer.
+    pub fn lowest(self) -> usize
+        ensures { λ r. ⌜ r ≡ verdictLowest self ⌝ }
+    {
+        match self {
+            Verdict::CorrectedCells { count: _, lowest } => lowest,
+            Verdict::BadProfile => 0,
+            Verdict::WrongLength => 0,
+            Verdict::Uncorrectable => 0,
+            Verdict::Ambiguous => 0,
+            Verdict::Corrected {
+                start: _,
+                length: _,
+            } => 0,
+            Verdict::TooManyErrors => 0,
         }
     }
 }

@@ -1,8 +1,12 @@
 -- A number made from an answer, or chosen by a test, is that of the answer or the test that is due, since the two are the same.
 use mathlib.Core.Path.{_≡_, ap, _∙_}
 use mathlib.Core.Bool.{Bool}
+use mathlib.Core.List.{List}
 use Prim.Native.Nat.{ℕ}
 use Rattle.lists.specs.Choice.{pick}
+use Rattle.profile.specs.declared.Profile.{Profile}
+use Rattle.block.specs.Numbers.{verdictNumber}
+use Rattle.block.specs.declared.Verdict.{Verdict}
 use Rattle.capi.specs.Numbers.{valueOrPlace}
 
 pub number-of : {A : Type 0} (f : A → ℕ) (x y : A) (z : ℕ) → z ≡ f x → x ≡ y → z ≡ f y
@@ -14,3 +18,11 @@ value-of {A = A} number value place x y n v p z en ev ep ez same = number-of (λ
 
 pub tested : (t u : Bool) → t ≡ u → pick {A = ℕ} t 0 1 ≡ pick u 0 1
 tested t u same = ap (λ (x : Bool). pick {A = ℕ} x 0 1) same
+
+-- a corrector's answer as its number and two values, and what it leaves, at a profile that is the one due
+pub corrector-of : (A : Profile → Verdict) (L : Profile → List ℕ) (f g : Verdict → ℕ) (p q : Profile) (w : Verdict) (o : List ℕ) (z a b : ℕ)
+    → p ≡ q → w ≡ A p → o ≡ L p → z ≡ verdictNumber w → a ≡ f w → b ≡ g w
+    → (z ≡ verdictNumber (A q)) × ((a ≡ f (A q)) × ((b ≡ g (A q)) × (o ≡ L q)))
+corrector-of A L f g p q w o z a b e ew eo ez ea eb =
+    let s : w ≡ A q = ew ∙ ap A e in
+    (number-of verdictNumber w (A q) z ez s, (number-of f w (A q) a ea s, (number-of g w (A q) b eb s, eo ∙ ap L e)))

@@ -1,10 +1,12 @@
-// The library for C and Rust: each exported function takes numbers and byte slices (pointer and length), answers document 01's number, 0 where
+// The library for C and Rust: each exported function takes numbers and byte slices (pointer and length), answers the documents' number, 0 where
 // accepted, or the length of a text, and hands every other number out through a reference. Each calls one entry of the crates below, and its
 // contract is that entry's answer, as the numbers that its own crate defines; specs/Numbers.antt has what C alone needs.
 ghost use mathlib.Core.Path.{_≡_};
 ghost use Rattle.profile.specs.Profile.{messageLength, half};
 ghost use Rattle.block.specs.Block.{writeAnswer, writeLeaves, checkAnswer, correctAnswer, correctLeaves};
-ghost use Rattle.block.specs.Numbers.{verdictNumber, verdictStart, verdictLength, writtenNumber, checkedNumber, checkedClean};
+ghost use Rattle.block.specs.Numbers.{verdictNumber, verdictStart, verdictLength, verdictCount, verdictLowest, writtenNumber, checkedNumber, checkedClean};
+ghost use Rattle.spots.specs.Spots.{spotAnswer, spotLeaves};
+ghost use Rattle.sheet.specs.declared.Mode.the-variants.{Burst, Spots};
 ghost use Rattle.sheet.specs.Sheet.{writeSheetAnswer, writeSheetLeaves, readAnswer, readScratch, readPayload};
 ghost use Rattle.sheet.specs.Numbers.{readingNumber, readingPlace, readingChanged};
 ghost use Rattle.plot.specs.Grammar.{reading};
@@ -15,6 +17,7 @@ ghost use Rattle.listing_text.specs.Buffer.{textIn, textLength};
 ghost use Rattle.listing.specs.Listing.{listed};
 ghost use Rattle.capi.specs.Numbers.{profileOf, profileNumber, valueOrPlace};
 use profile::Profile;
+use sheet::Mode;
 
 fn profile_of(n: usize, r: usize, b: usize, limit: usize, depth: usize) -> Profile
     ensures { λ z. ⌜ z ≡ profileOf n r b limit depth ⌝ }
@@ -108,7 +111,7 @@ pub extern "C" fn tishwabe_check_block(
     answer.number()
 }
 
-/// Corrects a block: the start and the length of the run.
+/// Corrects a block in burst mode: the start and the length of the run.
 #[no_mangle]
 pub extern "C" fn tishwabe_correct_block(
     n: usize,
@@ -132,6 +135,30 @@ pub extern "C" fn tishwabe_correct_block(
     answer.number()
 }
 
+/// Corrects a block in spot mode: the number of cells changed and the lowest of them.
+#[no_mangle]
+pub extern "C" fn tishwabe_correct_spots(
+    n: usize,
+    r: usize,
+    b: usize,
+    limit: usize,
+    depth: usize,
+    read: &[u8],
+    out: &mut [u8],
+    count: &mut usize,
+    lowest: &mut usize,
+) -> usize
+    ensures { λ z. ⌜ z ≡ verdictNumber (spotAnswer (profileOf n r b limit depth) (now (read .entry)) (now (out .entry))) ⌝ }
+    ensures { λ _. ⌜ now (count .exit) ≡ verdictCount (spotAnswer (profileOf n r b limit depth) (now (read .entry)) (now (out .entry))) ⌝ }
+    ensures { λ _. ⌜ now (lowest .exit) ≡ verdictLowest (spotAnswer (profileOf n r b limit depth) (now (read .entry)) (now (out .entry))) ⌝ }
+    ensures { λ _. ⌜ now (out .exit) ≡ spotLeaves (profileOf n r b limit depth) (now (read .entry)) (now (out .entry)) ⌝ }
+{
+    let answer = spots::correct(profile_of(n, r, b, limit, depth), read, out);
+    *count = answer.count();
+    *lowest = answer.lowest();
+    answer.number()
+}
+
 // ---- sheets
 
 /// Writes the sheet of a payload.
@@ -151,7 +178,39 @@ pub extern "C" fn tishwabe_write_sheet(
     sheet::write(profile_of(n, r, b, limit, depth), payload, sheet).number()
 }
 
-/// Reads a sheet: the number of blocks changed, or the place of the refusal.
+// Reads a sheet in a mode.
+fn read_sheet(
+    mode: Mode,
+    n: usize,
+    r: usize,
+    b: usize,
+    limit: usize,
+    depth: usize,
+    sheet: &[u8],
+    scratch: &mut [u8],
+    payload: &mut [u8],
+    changed: &mut usize,
+    place: &mut usize,
+) -> usize
+    ensures { λ z. ⌜ z ≡ readingNumber (readAnswer mode (profileOf n r b limit depth) (now (sheet .entry)) (now (scratch .entry)) (now (payload .entry))) ⌝ }
+    ensures { λ _. ⌜ now (changed .exit) ≡ readingChanged (readAnswer mode (profileOf n r b limit depth) (now (sheet .entry)) (now (scratch .entry)) (now (payload .entry))) ⌝ }
+    ensures { λ _. ⌜ now (place .exit) ≡ readingPlace (readAnswer mode (profileOf n r b limit depth) (now (sheet .entry)) (now (scratch .entry)) (now (payload .entry))) ⌝ }
+    ensures { λ _. ⌜ now (scratch .exit) ≡ readScratch mode (profileOf n r b limit depth) (now (sheet .entry)) (now (scratch .entry)) (now (payload .entry)) ⌝ }
+    ensures { λ _. ⌜ now (payload .exit) ≡ readPayload mode (profileOf n r b limit depth) (now (sheet .entry)) (now (scratch .entry)) (now (payload .entry)) ⌝ }
+{
+    let answer = sheet::read_in(
+        mode,
+        profile_of(n, r, b, limit, depth),
+        sheet,
+        scratch,
+        payload,
+    );
+    *changed = answer.changed();
+    *place = answer.place();
+    answer.number()
+}
+
+/// Reads a sheet in burst mode: the number of blocks changed, or the place of the refusal.
 #[no_mangle]
 pub extern "C" fn tishwabe_read_sheet(
     n: usize,
@@ -165,16 +224,60 @@ pub extern "C" fn tishwabe_read_sheet(
     changed: &mut usize,
     place: &mut usize,
 ) -> usize
-    ensures { λ z. ⌜ z ≡ readingNumber (readAnswer (profileOf n r b limit depth) (now (sheet .entry)) (now (scratch .entry)) (now (payload .entry))) ⌝ }
-    ensures { λ _. ⌜ now (changed .exit) ≡ readingChanged (readAnswer (profileOf n r b limit depth) (now (sheet .entry)) (now (scratch .entry)) (now (payload .entry))) ⌝ }
-    ensures { λ _. ⌜ now (place .exit) ≡ readingPlace (readAnswer (profileOf n r b limit depth) (now (sheet .entry)) (now (scratch .entry)) (now (payload .entry))) ⌝ }
-    ensures { λ _. ⌜ now (scratch .exit) ≡ readScratch (profileOf n r b limit depth) (now (sheet .entry)) (now (scratch .entry)) (now (payload .entry)) ⌝ }
-    ensures { λ _. ⌜ now (payload .exit) ≡ readPayload (profileOf n r b limit depth) (now (sheet .entry)) (now (scratch .entry)) (now (payload .entry)) ⌝ }
+    ensures { λ z. ⌜ z ≡ readingNumber (readAnswer Burst (profileOf n r b limit depth) (now (sheet .entry)) (now (scratch .entry)) (now (payload .entry))) ⌝ }
+    ensures { λ _. ⌜ now (changed .exit) ≡ readingChanged (readAnswer Burst (profileOf n r b limit depth) (now (sheet .entry)) (now (scratch .entry)) (now (payload .entry))) ⌝ }
+    ensures { λ _. ⌜ now (place .exit) ≡ readingPlace (readAnswer Burst (profileOf n r b limit depth) (now (sheet .entry)) (now (scratch .entry)) (now (payload .entry))) ⌝ }
+    ensures { λ _. ⌜ now (scratch .exit) ≡ readScratch Burst (profileOf n r b limit depth) (now (sheet .entry)) (now (scratch .entry)) (now (payload .entry)) ⌝ }
+    ensures { λ _. ⌜ now (payload .exit) ≡ readPayload Burst (profileOf n r b limit depth) (now (sheet .entry)) (now (scratch .entry)) (now (payload .entry)) ⌝ }
 {
-    let answer = sheet::read(profile_of(n, r, b, limit, depth), sheet, scratch, payload);
-    *changed = answer.changed();
-    *place = answer.place();
-    answer.number()
+    read_sheet(
+        Mode::Burst,
+        n,
+        r,
+        b,
+        limit,
+        depth,
+        sheet,
+        scratch,
+        payload,
+        changed,
+        place,
+    )
+}
+
+/// Reads a sheet in spot mode: the number of blocks changed, or the place of the refusal.
+#[no_mangle]
+pub extern "C" fn tishwabe_read_sheet_spots(
+    n: usize,
+    r: usize,
+    b: usize,
+    limit: usize,
+    depth: usize,
+    sheet: &[u8],
+    scratch: &mut [u8],
+    payload: &mut [u8],
+    changed: &mut usize,
+    place: &mut usize,
+) -> usize
+    ensures { λ z. ⌜ z ≡ readingNumber (readAnswer Spots (profileOf n r b limit depth) (now (sheet .entry)) (now (scratch .entry)) (now (payload .entry))) ⌝ }
+    ensures { λ _. ⌜ now (changed .exit) ≡ readingChanged (readAnswer Spots (profileOf n r b limit depth) (now (sheet .entry)) (now (scratch .entry)) (now (payload .entry))) ⌝ }
+    ensures { λ _. ⌜ now (place .exit) ≡ readingPlace (readAnswer Spots (profileOf n r b limit depth) (now (sheet .entry)) (now (scratch .entry)) (now (payload .entry))) ⌝ }
+    ensures { λ _. ⌜ now (scratch .exit) ≡ readScratch Spots (profileOf n r b limit depth) (now (sheet .entry)) (now (scratch .entry)) (now (payload .entry)) ⌝ }
+    ensures { λ _. ⌜ now (payload .exit) ≡ readPayload Spots (profileOf n r b limit depth) (now (sheet .entry)) (now (scratch .entry)) (now (payload .entry)) ⌝ }
+{
+    read_sheet(
+        Mode::Spots,
+        n,
+        r,
+        b,
+        limit,
+        depth,
+        sheet,
+        scratch,
+        payload,
+        changed,
+        place,
+    )
 }
 
 // ---- plots

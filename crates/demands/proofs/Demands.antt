@@ -5,11 +5,12 @@ use Rattle.profile.proofs.Ranges.{in-range}
 use Rattle.block.proofs.Verdicts.{exactly-one}
 use Rattle.block.proofs.Promises.{writes-codeword, clean-iff, uncorrectable-iff, ambiguous-iff, corrected-iff, depth-free, half-promise, block-refusals}
 use Rattle.sheet.proofs.Apart.{places, taken-apart}
-use Rattle.sheet.proofs.Verdicts.{differ-iff}
+use Rattle.sheet.proofs.Differ.{differ-iff}
 use Rattle.sheet.proofs.Theorems.{writes-sheet, read-results}
 use Rattle.sheet.proofs.Refusals.{sheet-refusals}
 use Rattle.sheet.proofs.Promise.{sheet-promise}
 use Rattle.demands.proofs.Examples.{starred-examples}
+use Rattle.demands.proofs.Requests.{requests}
 use Rattle.plot_promises.proofs.Lines.{lines-hold-iff}
 use Rattle.plot_promises.proofs.Canonical.{record-bytes, plots-unique, written-as-read, read-as-written, accepted-form, added-is-found}
 use Rattle.plot_promises.proofs.Stepping.{stepping-exactly}
@@ -71,7 +72,7 @@ beside = record {
   half-run = half-promise;
   differing = differ-iff;
   apart = taken-apart;
-  untouched = λ p m cells scratch out v h c b. sheet-promise p m cells v h c .back scratch out b;
+  untouched = λ mode p m cells scratch out v h c b. sheet-promise p m cells v h c .back mode scratch out b;
   read-as-written = read-as-written;
   examples = starred-examples;
   printed = list-accepted;
@@ -84,4 +85,4 @@ beside = record {
 }
 
 pub all-promises : AllPromises
-all-promises = record { demands = demands; beside = beside }
+all-promises = record { demands = demands; beside = beside; requests = requests }

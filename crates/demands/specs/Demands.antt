@@ -1,5 +1,5 @@
 -- What the customer demands, sentence by sentence in the customer's own words ("What the customer demands"), each with the statement that says it; then
--- what document 01 asks beside the three demands. A statement is defined in the crate that its `use` line names; proofs/Demands.antt proves them all.
+-- what document 01 asks beside the three demands; what document 02 asks is in Requests.antt. A statement is defined in the crate that its `use` line names; proofs/Demands.antt proves them all.
 use mathlib.Core.Path.{_≡_}
 use mathlib.Core.List.{List}
 use Prim.Native.Nat.{ℕ, _*_, _≤_}
@@ -10,12 +10,15 @@ use Rattle.code.specs.Theorems.{CodewordIffSyndromes, MinimumDistance, LongRunR
 use Rattle.profile.specs.Profile.{InRange, InRangeIff, half}
 use Rattle.block.specs.Promises.{WritesCodeword, CleanIff, UncorrectableIff, AmbiguousIff, CorrectedIff, ExactlyOne, HalfPromise, DepthFree, BlockRefusals}
 use Rattle.profile.specs.declared.Profile.{Profile}
+use Rattle.sheet.specs.declared.Mode.{Mode}
+use Rattle.sheet.specs.declared.Mode.the-variants.{Burst}
 use Rattle.sheet.specs.Sheet.{writeSheetLeaves, readAnswer, readPayload}
 use Rattle.sheet.specs.Numbers.{readingNumber}
 use Rattle.sheet.specs.Buffers.{Payload, Lent}
 use Rattle.sheet.specs.Theorems.{Places, TakenApart, DifferIff, WritesSheet, ReadResults, SheetRefusals}
 use Rattle.sheet.specs.Promise.{Damaged, ReadsBack}
 use Rattle.demands.specs.Examples.{StarredExamples}
+use Rattle.demands.specs.Requests.{Requests}
 use Rattle.plot.specs.Layout.{Plot}
 use Rattle.plot_promises.specs.Lines.{LinesHoldIff}
 use Rattle.plot_promises.specs.Canonical.{RecordBytes, PlotsUnique, WrittenAsRead, ReadAsWritten, AcceptedForm, AddedIsFound}
@@ -70,7 +73,7 @@ pub record Demand3 : Type 0 where
   pub otherwise : ExactlyOne
   pub one : CorrectedIff
   -- "A sheet is refused exactly when a block of it is, with the lowest such block's number and reason; else its payload is the message bytes of all its
-  -- blocks as mended, in document 01's order."
+  -- blocks as mended, in document 01's order.": in every mode; document 01's is the burst mode
   pub reading : ReadResults
   -- "Every payload of the profile's size is written to a sheet as document 01 lays it out."
   pub writing : WritesSheet
@@ -78,7 +81,7 @@ pub record Demand3 : Type 0 where
   -- half, the reader under the same profile gives back that payload byte for byte."
   pub scratched : (p : Profile) (payload cells sheet scratch out : List ℕ) → InRange p → half p ≤ p .limit → Payload p payload → length cells ≡ p .depth * p .n
       → Damaged p (writeSheetLeaves p payload cells) sheet → Lent p sheet scratch out
-      → (readingNumber (readAnswer p sheet scratch out) ≡ 0) × (readPayload p sheet scratch out ≡ payload)
+      → (readingNumber (readAnswer Burst p sheet scratch out) ≡ 0) × (readPayload Burst p sheet scratch out ≡ payload)
   -- "Asking for any plot number then answers alike on both payloads, with the same record or the same refusal, as the rules for plot records have it."
   pub asking : SameAfterDamage
 
@@ -107,9 +110,9 @@ pub record Beside : Type 0 where
   pub differing : DifferIff
   -- blocks and messages, put together and taken apart again
   pub apart : (D : ℕ) → TakenApart D
-  -- a written sheet, read as it was written, gives its payload back with no block changed
-  pub untouched : (p : Profile) (payload cells scratch out : List ℕ) → InRange p → Payload p payload → length cells ≡ p .depth * p .n
-      → Lent p (writeSheetLeaves p payload cells) scratch out → ReadsBack p payload (writeSheetLeaves p payload cells) 0 scratch out
+  -- a written sheet, read as it was written, gives its payload back with no block changed, in every mode
+  pub untouched : (mode : Mode) (p : Profile) (payload cells scratch out : List ℕ) → InRange p → Payload p payload → length cells ≡ p .depth * p .n
+      → Lent p (writeSheetLeaves p payload cells) scratch out → ReadsBack mode p payload (writeSheetLeaves p payload cells) 0 scratch out
   -- reading a payload that was written plot by plot gives those plots
   pub read-as-written : ReadAsWritten
   -- "The eleven starred examples are shown to follow from the definitions, gathered into a common table with a common theorem."
@@ -125,7 +128,8 @@ pub record Beside : Type 0 where
   pub text : WholeText
   pub input : EnoughInput
 
--- everything that is promised of the base, as one theorem
+-- everything that is promised, as one theorem
 pub record AllPromises : Type 0 where
   pub demands : Demands
   pub beside : Beside
+  pub requests : Requests

@@ -11,6 +11,7 @@ use borrow.Author.Tests.{lt-ltb, le-ltb}
 use Rattle.profile.specs.Profile.{InRange, inRange, messageLength}
 use Rattle.profile.specs.declared.Profile.{Profile}
 use Rattle.block.proofs.NumberLaws.{number-most}
+use Rattle.sheet.specs.declared.Mode.the-variants.{Burst}
 use Rattle.sheet.specs.Sheet.{readAnswer, readPayload}
 use Rattle.sheet.specs.Numbers.{refusalNumber, refusalPlace}
 use Rattle.sheet.specs.Buffers.{Sheet, Lent}
@@ -34,23 +35,23 @@ number-small WrongLength = omega arith
 number-small (Block n w) = omega (arith, number-most w)
 
 module _ (p : Profile) (sheet scratch payload : List ℕ) (es : scratch ≡ scratchBuffer p) (ep : payload ≡ payloadBuffer p) where
-  pub text-refused : (r : Refusal) → Refused r ≡ readAnswer p sheet scratch payload → refusalText (refusalNumber r) (refusalPlace r) ≡ sheetText p sheet
+  pub text-refused : (r : Refusal) → Refused r ≡ readAnswer Burst p sheet scratch payload → refusalText (refusalNumber r) (refusalPlace r) ≡ sheetText p sheet
   unfolding sheetText sheetAnswerText
   text-refused r e =
-      ap (λ (a : Reading). sheetAnswerText a (readPayload p sheet (scratchBuffer p) (payloadBuffer p)))
-      (e ∙ ap₂ (λ (s q : List ℕ). readAnswer p sheet s q) es ep)
+      ap (λ (a : Reading). sheetAnswerText a (readPayload Burst p sheet (scratchBuffer p) (payloadBuffer p)))
+      (e ∙ ap₂ (λ (s q : List ℕ). readAnswer Burst p sheet s q) es ep)
 
-  pub text-accepted : (changed : ℕ) (back : List ℕ) → Accepted changed ≡ readAnswer p sheet scratch payload → back ≡ readPayload p sheet scratch payload
+  pub text-accepted : (changed : ℕ) (back : List ℕ) → Accepted changed ≡ readAnswer Burst p sheet scratch payload → back ≡ readPayload Burst p sheet scratch payload
       → listingText changed (reading back) ≡ sheetText p sheet
   unfolding sheetText sheetAnswerText
   text-accepted changed back e b =
-      ap₂ sheetAnswerText (e ∙ ap₂ (λ (s q : List ℕ). readAnswer p sheet s q) es ep) (b ∙ ap₂ (λ (s q : List ℕ). readPayload p sheet s q) es ep)
+      ap₂ sheetAnswerText (e ∙ ap₂ (λ (s q : List ℕ). readAnswer Burst p sheet s q) es ep) (b ∙ ap₂ (λ (s q : List ℕ). readPayload Burst p sheet s q) es ep)
 
 pub listed-bad : (input : List ℕ) → 5 ≤ length input → inRange (inputProfile input) ≡ false → refusalText 1 0 ≡ listed input
 unfolding listed
 listed-bad input l e =
     rw (le-ltb (length input) 5 l)
-    (text-refused (inputProfile input) (drop 5 input) (scratchBuffer (inputProfile input)) (payloadBuffer (inputProfile input)) refl refl BadProfile (read-bad (inputProfile input) (drop 5 input) _ _ e .0))
+    (text-refused (inputProfile input) (drop 5 input) (scratchBuffer (inputProfile input)) (payloadBuffer (inputProfile input)) refl refl BadProfile (read-bad Burst (inputProfile input) (drop 5 input) _ _ e .0))
 
 pub listed-short : (input : List ℕ) → length input < 5 → refusalText 1 0 ≡ listed input
 unfolding listed

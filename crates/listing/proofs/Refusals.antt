@@ -8,6 +8,7 @@ use lib.ListN.{length, drop}
 use borrow.Author.Tests.{le-ltb}
 use Rattle.profile.specs.Profile.{InRange}
 use Rattle.profile.specs.declared.Profile.{Profile}
+use Rattle.sheet.specs.declared.Mode.the-variants.{Burst}
 use Rattle.sheet.specs.Sheet.{readBlock, readPayload}
 use Rattle.sheet.specs.Numbers.{readingNumber, readingPlace}
 use Rattle.sheet.specs.Buffers.{Lent}
@@ -36,10 +37,10 @@ answer-text (Accepted changed) m n = absurd (n refl)
 module _ (p : Profile) (sheet : List ℕ) where
   refused-text : (number place : ℕ) → readingNumber (answer p sheet) ≡ number → readingPlace (answer p sheet) ≡ place → number ≢ 0 → sheetText p sheet ≡ refusalText number place
   unfolding sheetText
-  refused-text number place e f n = answer-text (answer p sheet) (readPayload p sheet (scratchBuffer p) (payloadBuffer p)) (λ z. n (sym e ∙ z)) ∙ ap₂ refusalText e f
+  refused-text number place e f n = answer-text (answer p sheet) (readPayload Burst p sheet (scratchBuffer p) (payloadBuffer p)) (λ z. n (sym e ∙ z)) ∙ ap₂ refusalText e f
 
   module _ (v : InRange p) (h : Lent p sheet (scratchBuffer p) (payloadBuffer p)) where
-    lowest-text : (d number : ℕ) → LowestRefused p sheet d number → sheetText p sheet ≡ refusalText number d
+    lowest-text : (d number : ℕ) → LowestRefused Burst p sheet d number → sheetText p sheet ≡ refusalText number d
     lowest-text d number o =
         let n : number ≢ 0 = ⊎-elim (λ z q. let e : number ≡ 3 = z .0 in omega arith) (λ z q. let e : number ≡ 4 = z .0 in omega arith) (o .refused) in
         let q = results p sheet v h .refused d number n .1 o in
@@ -59,14 +60,14 @@ module _ (input : List ℕ) where
   listed-rest l = rw (le-ltb (length input) 5 l)
 
   -- all blocks have codewords: the text is that of the payload
-  pub listed-payload : SheetInput input → (words : ℕ → List ℕ) → AllWords p sheet words
+  pub listed-payload : SheetInput input → (words : ℕ → List ℕ) → AllWords Burst p sheet words
       → listed input ≡ listingText (differing (p .depth) words (readBlock p sheet)) (reading (messages input words))
   listed-payload h words a =
       let lent : Lent p sheet (scratchBuffer p) (payloadBuffer p) = own-buffers p sheet (h .cells) in
-      let t = read-accepts p sheet (scratchBuffer p) (payloadBuffer p) (h .ranges) lent words a in
+      let t = read-accepts Burst p sheet (scratchBuffer p) (payloadBuffer p) (h .ranges) lent words a in
       listed-rest (h .profile) ∙ sym (text-accepted p sheet (scratchBuffer p) (payloadBuffer p) refl refl _ (messages input words) (sym (t .0)) (sym (t .1 .payload)))
 
-  payload-refused : SheetInput input → (words : ℕ → List ℕ) → AllWords p sheet words → payloadNumber (checked (messages input words)) ≢ 0
+  payload-refused : SheetInput input → (words : ℕ → List ℕ) → AllWords Burst p sheet words → payloadNumber (checked (messages input words)) ≢ 0
       → listed input ≡ refusalText (payloadNumber (checked (messages input words))) (payloadPlace (checked (messages input words)))
   payload-refused h words a n =
       let r = stopped-of (messages input words) n in

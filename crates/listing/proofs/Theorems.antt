@@ -14,6 +14,7 @@ use Rattle.lists.proofs.Bytes.{drop-bytes}
 use Rattle.profile.specs.Profile.{InRange, inRange}
 use Rattle.profile.specs.declared.Profile.{Profile}
 use Rattle.profile.proofs.Ranges.{in-range}
+use Rattle.sheet.specs.declared.Mode.the-variants.{Burst}
 use Rattle.sheet.specs.Sheet.{readPayload}
 use Rattle.sheet.specs.Numbers.{refusalNumber, refusalPlace, readingNumber, readingPlace}
 use Rattle.sheet.specs.Buffers.{Lent}
@@ -45,9 +46,9 @@ module _ (p : Profile) (sheet : List ℕ) where
     answer-fits : (a : Reading) → (answer p sheet) ≡ a → length (sheetText p sheet) ≤ longestText
     answer-fits (Refused r) q = refused-fits r q (let e : readingPlace (answer p sheet) ≡ refusalPlace r = ap readingPlace q in omega (arith, place-most))
     answer-fits (Accepted changed) q =
-        let back = readPayload p sheet (scratchBuffer p) (payloadBuffer p) in
-        let bytes = payload-back p sheet (scratchBuffer p) (payloadBuffer p) v h changed q .bytes in
-        let most : changed ≤ p .depth = changed-most p sheet (scratchBuffer p) (payloadBuffer p) v h changed q in
+        let back = readPayload Burst p sheet (scratchBuffer p) (payloadBuffer p) in
+        let bytes = payload-back Burst p sheet (scratchBuffer p) (payloadBuffer p) v h changed q .bytes in
+        let most : changed ≤ p .depth = changed-most Burst p sheet (scratchBuffer p) (payloadBuffer p) v h changed q in
         rw (sym (text-accepted p sheet (scratchBuffer p) (payloadBuffer p) refl refl changed back (sym q) refl))
         (listing-length changed back (omega (arith, v .depth-most)) bytes)
 

@@ -4,6 +4,7 @@ use mathlib.Core.Path.{_≡_}
 use mathlib.Core.List.{List}
 use Prim.Native.Nat.{ℕ}
 use lib.ListN.{drop}
+use Rattle.sheet.specs.declared.Mode.the-variants.{Burst}
 use Rattle.sheet.specs.Sheet.{readBlock}
 use Rattle.sheet.specs.Theorems.{AllWords, differing}
 use Rattle.plot.specs.Layout.{Plot}
@@ -16,5 +17,5 @@ use Rattle.listing.specs.Refusals.{SheetInput, messages}
 -- comma and the number of blocks changed", which are those whose codeword isn't the read block
 abbrev pub ListAccepted : List ℕ → Type 0
 ListAccepted input =
-    SheetInput input → (words : ℕ → List ℕ) → AllWords (inputProfile input) (drop 5 input) words → (ps : List Plot) → Contains (messages input words) ps
+    SheetInput input → (words : ℕ → List ℕ) → AllWords Burst (inputProfile input) (drop 5 input) words → (ps : List Plot) → Contains (messages input words) ps
     → listed input ≡ inLines (answerLines (differing (inputProfile input .depth) words (readBlock (inputProfile input) (drop 5 input))) ps)

@@ -7,6 +7,7 @@ use lib.ListN.{length, getD, drop, replicate}
 use Rattle.lists.specs.Choice.{pick}
 use Rattle.profile.specs.Profile.{messageLength}
 use Rattle.profile.specs.declared.Profile.{Profile}
+use Rattle.sheet.specs.declared.Mode.the-variants.{Burst}
 use Rattle.sheet.specs.Sheet.{readAnswer, readPayload}
 use Rattle.sheet.specs.Numbers.{refusalNumber, refusalPlace}
 use Rattle.sheet.specs.declared.Reading.{Reading}
@@ -31,7 +32,7 @@ abbrev pub payloadBuffer : Profile → List ℕ
 payloadBuffer p = replicate (p .depth * messageLength p) 0
 
 unfoldable pub sheetText : Profile → List ℕ → List ℕ
-sheetText p sheet = sheetAnswerText (readAnswer p sheet (scratchBuffer p) (payloadBuffer p)) (readPayload p sheet (scratchBuffer p) (payloadBuffer p))
+sheetText p sheet = sheetAnswerText (readAnswer Burst p sheet (scratchBuffer p) (payloadBuffer p)) (readPayload Burst p sheet (scratchBuffer p) (payloadBuffer p))
 
 -- L1: the whole answer
 unfoldable pub listed : List ℕ → List ℕ

@@ -6,6 +6,7 @@ use mathlib.Core.List.{List}
 use Prim.Native.Nat.{ℕ, _*_, _≤_, _<_}
 use lib.ListN.{length, drop}
 use Rattle.profile.specs.Profile.{InRange, messageLength}
+use Rattle.sheet.specs.declared.Mode.the-variants.{Burst}
 use Rattle.sheet.specs.Sheet.{joined}
 use Rattle.sheet.specs.Buffers.{Sheet}
 use Rattle.sheet.specs.Theorems.{LowestRefused, AllWords}
@@ -33,7 +34,7 @@ module _ (input : List ℕ) where
     -- "a sheet of other than D × n bytes 2"
     pub frame : 5 ≤ length input → InRange (inputProfile input) → length (drop 5 input) ≢ inputProfile input .depth * inputProfile input .n → listed input ≡ refusalText 2 0
     -- 3 and 4: the lowest block that is refused, with its number as the place
-    pub blocks : SheetInput → (d number : ℕ) → LowestRefused (inputProfile input) (drop 5 input) d number → listed input ≡ refusalText number d
+    pub blocks : SheetInput → (d number : ℕ) → LowestRefused Burst (inputProfile input) (drop 5 input) d number → listed input ≡ refusalText number d
     -- 5 to 8: all blocks have codewords, and the payload is refused as its check says
-    pub records : SheetInput → (words : ℕ → List ℕ) → AllWords (inputProfile input) (drop 5 input) words → payloadNumber (checked (messages words)) ≢ 0
+    pub records : SheetInput → (words : ℕ → List ℕ) → AllWords Burst (inputProfile input) (drop 5 input) words → payloadNumber (checked (messages words)) ≢ 0
         → listed input ≡ refusalText (payloadNumber (checked (messages words))) (payloadPlace (checked (messages words)))

@@ -30,7 +30,7 @@ fn profile_of(input: &[u8]) -> Profile
     }
 }
 
-// A sheet's refusal is 1 to 4, or 0.
+// A sheet's refusal is at most 11.
 fn number(r: Refusal) -> u8
     ensures { λ n. ⌜ n ≡ refusalNumber r ⌝ }
 {

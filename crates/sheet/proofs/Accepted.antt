@@ -9,40 +9,42 @@ use Rattle.lists.proofs.Test.{pick-of}
 use Rattle.lists.proofs.Bytes.{drop-bytes}
 use Rattle.profile.specs.Profile.{InRange, messageLength}
 use Rattle.profile.specs.declared.Profile.{Profile}
+use Rattle.sheet.specs.declared.Mode.{Mode}
 use Rattle.sheet.specs.declared.Reading.the-variants.{Accepted}
 use Rattle.sheet.specs.Sheet.{readBlock, differ, readAnswer, readPayload}
 use Rattle.sheet.specs.Numbers.{readingNumber, readingChanged}
 use Rattle.sheet.specs.Buffers.{Payload, Lent, differing}
 use Rattle.sheet.specs.Theorems.{AllWords, Accepts, Results}
 use Rattle.sheet.proofs.Apart.{joined-length, joined-bytes}
+use Rattle.sheet.proofs.Modes.{word-of}
 use Rattle.sheet.proofs.Reader.{small-sum}
 use Rattle.sheet.proofs.Theorems.{read-results}
 
-module _ (p : Profile) (sheet scratch out : List ℕ) (v : InRange p) (h : Lent p sheet scratch out) (changed : ℕ)
-    (q : readAnswer p sheet scratch out ≡ Accepted changed) where
-  number : readingNumber (readAnswer p sheet scratch out) ≡ 0
+module _ (mode : Mode) (p : Profile) (sheet scratch out : List ℕ) (v : InRange p) (h : Lent p sheet scratch out) (changed : ℕ)
+    (q : readAnswer mode p sheet scratch out ≡ Accepted changed) where
+  number : readingNumber (readAnswer mode p sheet scratch out) ≡ 0
   number = ap readingNumber q
 
-  results : Results p sheet scratch out
-  results = read-results p sheet scratch out v h
+  results : Results mode p sheet scratch out
+  results = read-results mode p sheet scratch out v h
 
   abbrev words : ℕ → List ℕ
   words = results .accepted .0 number .0
 
-  all : AllWords p sheet words
+  all : AllWords mode p sheet words
   all = results .accepted .0 number .1
 
-  accepts : Accepts p sheet scratch out words
+  accepts : Accepts mode p sheet scratch out words
   accepts = results .accepts words all
 
-  pub payload-back : Payload p (readPayload p sheet scratch out)
+  pub payload-back : Payload p (readPayload mode p sheet scratch out)
   payload-back =
       rw (accepts .payload)
       (record {
         count = joined-length (p .depth) (messageLength p) (λ (d : ℕ). drop (p .r) (words d));
         bytes =
             joined-bytes (p .depth) (messageLength p) (λ (d : ℕ). drop (p .r) (words d))
-            (λ d l. drop-bytes (p .r) (words d) (all d l .2 .reached .codeword .bytes));
+            (λ d l. drop-bytes (p .r) (words d) (word-of mode p (readBlock p sheet d) (words d) (all d l) .bytes));
       })
 
   pub changed-most : changed ≤ p .depth

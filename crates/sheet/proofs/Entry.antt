@@ -16,6 +16,7 @@ use Rattle.profile.specs.declared.Profile.{Profile}
 use Rattle.block.specs.declared.Written.the-variants as writes
 use Rattle.profile.proofs.Ranges.{in-range}
 use Rattle.profile.proofs.Refusing.{refuse-one, refuse-two, accept}
+use Rattle.sheet.specs.declared.Mode.{Mode}
 use Rattle.sheet.specs.declared.Refusal.the-variants.{BadProfile, WrongLength}
 use Rattle.sheet.specs.declared.Reading.{Reading}
 use Rattle.sheet.specs.declared.Reading.the-variants.{Refused}
@@ -99,10 +100,10 @@ module _ (p : Profile) (sheet scratch payload : ℕ) where
       let b = both-true (eqb scratch (p .depth * p .n)) (eqb payload (p .depth * messageLength p)) (a .1) in
       (eqb-true _ _ (a .0), eqb-true _ _ (b .0), eqb-true _ _ (b .1))
 
-module _ (p : Profile) (sheet scratch out : List ℕ) where
+module _ (mode : Mode) (p : Profile) (sheet scratch out : List ℕ) where
   -- the answer and what stands in both buffers afterwards
   abbrev pub Read : Reading → List ℕ → List ℕ → Type 0
-  Read r s m = (r ≡ readAnswer p sheet scratch out) × ((s ≡ readScratch p sheet scratch out) × (m ≡ readPayload p sheet scratch out))
+  Read r s m = (r ≡ readAnswer mode p sheet scratch out) × ((s ≡ readScratch mode p sheet scratch out) × (m ≡ readPayload mode p sheet scratch out))
 
   pub read-bad : inRange p ≡ false → Read (Refused BadProfile) scratch out
   unfolding readAnswer readScratch readPayload
@@ -115,14 +116,14 @@ module _ (p : Profile) (sheet scratch out : List ℕ) where
 
     module _ (f : readFits p (length sheet) (length scratch) (length out) ≡ true) where
       -- past the refusals 1 and 2
-      pub read-past : Read (sheetAnswer p sheet) (replicate (length scratch) 0) (pick (isAccepted (sheetAnswer p sheet)) (sheetPayload p sheet) out)
+      pub read-past : Read (sheetAnswer mode p sheet) (replicate (length scratch) 0) (pick (isAccepted (sheetAnswer mode p sheet)) (sheetPayload mode p sheet) out)
       unfolding readAnswer readScratch readPayload
       read-past = (accept p _ _ _ _ t f, (accept p _ _ _ _ t f, accept p _ _ _ _ t f))
 
-      module _ (r : Reading) (s : List ℕ) (h : CorrectedAll p sheet r s) where
+      module _ (r : Reading) (s : List ℕ) (h : CorrectedAll mode p sheet r s) where
         pub read-refused : isAccepted r ≡ false → (z : List ℕ) → z ≡ replicate (length scratch) 0 → Read r z out
         read-refused a z e =
-            let o : out ≡ pick (isAccepted (sheetAnswer p sheet)) (sheetPayload p sheet) out = rw (ap isAccepted (sym (h .answer)) ∙ a) in
+            let o : out ≡ pick (isAccepted (sheetAnswer mode p sheet)) (sheetPayload mode p sheet) out = rw (ap isAccepted (sym (h .answer)) ∙ a) in
             (h .answer ∙ read-past .0, (e ∙ read-past .1 .0, o ∙ read-past .1 .1))
 
         pub read-accepted : InRange p → isAccepted r ≡ true → (z m : List ℕ) → z ≡ replicate (length scratch) 0
@@ -130,16 +131,16 @@ module _ (p : Profile) (sheet scratch out : List ℕ) where
         unfolding sheetPayload
         read-accepted v a z m e q =
             let k : p .r + messageLength p ≡ p .n = omega (arith, v .r-below) in
-            let o : m ≡ pick (isAccepted (sheetAnswer p sheet)) (sheetPayload p sheet) out =
+            let o : m ≡ pick (isAccepted (sheetAnswer mode p sheet)) (sheetPayload mode p sheet) out =
             rw (ap isAccepted (sym (h .answer)) ∙ a)
             (q ∙ ap (λ (b : List ℕ). joined (p .depth) (messageLength p) (messageAt (p .n) (p .r) (messageLength p) b)) (h .words a)
-            ∙ messages-of-rows (p .depth) (p .n) (p .r) (messageLength p) (codeword p sheet) k) in
+            ∙ messages-of-rows (p .depth) (p .n) (p .r) (messageLength p) (codeword mode p sheet) k) in
             (h .answer ∙ read-past .0, (e ∙ read-past .1 .0, o ∙ read-past .1 .1))
 
 -- profile and lengths right
-pub read-rest : (p : Profile) (sheet scratch out : List ℕ) → InRange p → length sheet ≡ p .depth * p .n → length scratch ≡ p .depth * p .n → length out ≡ p .depth * messageLength p
-    → (readAnswer p sheet scratch out ≡ sheetAnswer p sheet) × (readScratch p sheet scratch out ≡ replicate (length scratch) 0)
-    × (readPayload p sheet scratch out ≡ pick (isAccepted (sheetAnswer p sheet)) (sheetPayload p sheet) out)
-read-rest p sheet scratch out v e f g =
-    let q = read-past p sheet scratch out (in-range p .1 v) (read-fits p (length sheet) (length scratch) (length out) e f g) in
+pub read-rest : (mode : Mode) (p : Profile) (sheet scratch out : List ℕ) → InRange p → length sheet ≡ p .depth * p .n → length scratch ≡ p .depth * p .n → length out ≡ p .depth * messageLength p
+    → (readAnswer mode p sheet scratch out ≡ sheetAnswer mode p sheet) × (readScratch mode p sheet scratch out ≡ replicate (length scratch) 0)
+    × (readPayload mode p sheet scratch out ≡ pick (isAccepted (sheetAnswer mode p sheet)) (sheetPayload mode p sheet) out)
+read-rest mode p sheet scratch out v e f g =
+    let q = read-past mode p sheet scratch out (in-range p .1 v) (read-fits p (length sheet) (length scratch) (length out) e f g) in
     (sym (q .0), sym (q .1 .0), sym (q .1 .1))

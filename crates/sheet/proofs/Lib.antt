@@ -1,7 +1,8 @@
 pub mod Lists
 pub mod Places
 pub mod Apart
-pub mod Verdicts
+pub mod Differ
+pub mod Modes
 pub mod Reader
 pub mod Theorems
 pub mod Refusals

@@ -8,6 +8,7 @@ use native.Mathlib.Nat.{not-suc-le-zero, le-of-suc-le-suc, eq-or-lt-of-le, add-a
 use native.Mathlib.Omega.{arith}
 use Rattle.lists.proofs.Test.{true-or-false}
 use Rattle.profile.specs.declared.Profile.{Profile}
+use Rattle.sheet.specs.declared.Mode.{Mode}
 use Rattle.sheet.specs.declared.Refusal.the-variants.{Block}
 use Rattle.sheet.specs.declared.Reading.the-variants.{Refused, Accepted}
 use Rattle.sheet.specs.Sheet.{isCorrected, blockVerdict, changedAt, answerFrom, sheetAnswer}
@@ -40,37 +41,37 @@ small-sum (suc n) f h =
     let b : sum n (λ (i : ℕ). f (suc i)) ≤ n = small-sum n (λ (i : ℕ). f (suc i)) (λ i l. h (suc i) (suc-le-suc l)) in
     omega arith
 
-module _ (p : Profile) (sheet : List ℕ) where
+module _ (mode : Mode) (p : Profile) (sheet : List ℕ) where
   abbrev fine : ℕ → Bool
-  fine d = isCorrected (blockVerdict p sheet d)
+  fine d = isCorrected (blockVerdict mode p sheet d)
 
   -- one block more
-  pub answer-on : (left d changed : ℕ) → fine d ≡ true → answerFrom p sheet (suc left) d changed ≡ answerFrom p sheet left (suc d) (changed + changedAt p sheet d)
+  pub answer-on : (left d changed : ℕ) → fine d ≡ true → answerFrom mode p sheet (suc left) d changed ≡ answerFrom mode p sheet left (suc d) (changed + changedAt mode p sheet d)
   unfolding answerFrom
   answer-on left d changed t = rw t
 
-  pub answer-stop : (left d changed : ℕ) → fine d ≡ false → answerFrom p sheet (suc left) d changed ≡ Refused (Block d (blockVerdict p sheet d))
+  pub answer-stop : (left d changed : ℕ) → fine d ≡ false → answerFrom mode p sheet (suc left) d changed ≡ Refused (Block d (blockVerdict mode p sheet d))
   unfolding answerFrom
   answer-stop left d changed t = rw t
 
-  pub answer-end : (d changed : ℕ) → answerFrom p sheet 0 d changed ≡ Accepted changed
+  pub answer-end : (d changed : ℕ) → answerFrom mode p sheet 0 d changed ≡ Accepted changed
   unfolding answerFrom
   answer-end d changed = refl
 
   all-from : (left d changed : ℕ) → ((i : ℕ) → i < left → fine (d + i) ≡ true)
-      → answerFrom p sheet left d changed ≡ Accepted (changed + sum left (λ (i : ℕ). changedAt p sheet (d + i)))
+      → answerFrom mode p sheet left d changed ≡ Accepted (changed + sum left (λ (i : ℕ). changedAt mode p sheet (d + i)))
   unfolding sum
   all-from zero d changed h = answer-end d changed ∙ ap Accepted (omega arith)
   all-from (suc left) d changed h =
       answer-on left d changed (ap fine (omega arith) ∙ h 0 (suc-le-suc zero-le))
-      ∙ all-from left (suc d) (changed + changedAt p sheet d) (λ i l. ap fine (omega arith) ∙ h (suc i) (suc-le-suc l))
+      ∙ all-from left (suc d) (changed + changedAt mode p sheet d) (λ i l. ap fine (omega arith) ∙ h (suc i) (suc-le-suc l))
       ∙ ap Accepted
-      (add-assoc changed (changedAt p sheet d) _
+      (add-assoc changed (changedAt mode p sheet d) _
       ∙ ap (λ (x : ℕ). changed + x)
-      (ap₂ (λ (a b : ℕ). a + b) (ap (changedAt p sheet) (omega arith)) (same-sum left _ _ (λ i l. ap (changedAt p sheet) (omega arith)))))
+      (ap₂ (λ (a b : ℕ). a + b) (ap (changedAt mode p sheet) (omega arith)) (same-sum left _ _ (λ i l. ap (changedAt mode p sheet) (omega arith)))))
 
   first-from : (i left d changed : ℕ) → i < left → ((j : ℕ) → j < i → fine (d + j) ≡ true) → fine (d + i) ≡ false
-      → answerFrom p sheet left d changed ≡ Refused (Block (d + i) (blockVerdict p sheet (d + i)))
+      → answerFrom mode p sheet left d changed ≡ Refused (Block (d + i) (blockVerdict mode p sheet (d + i)))
   first-from i zero d changed l h t = absurd (not-suc-le-zero l)
   first-from zero (suc left) d changed l h t =
       let e : d + 0 ≡ d = omega arith in
@@ -80,16 +81,16 @@ module _ (p : Profile) (sheet : List ℕ) where
       let z : d + 0 ≡ d = omega arith in
       answer-on left d changed (ap fine (sym z) ∙ h 0 (suc-le-suc zero-le))
       ∙ rw e
-      (first-from i left (suc d) (changed + changedAt p sheet d) (le-of-suc-le-suc l) (λ j k. ap fine (omega arith) ∙ h (suc j) (suc-le-suc k)) (rw e at t))
+      (first-from i left (suc d) (changed + changedAt mode p sheet d) (le-of-suc-le-suc l) (λ j k. ap fine (omega arith) ∙ h (suc j) (suc-le-suc k)) (rw e at t))
 
-  pub all-accepted : ((d : ℕ) → d < p .depth → fine d ≡ true) → sheetAnswer p sheet ≡ Accepted (sum (p .depth) (changedAt p sheet))
+  pub all-accepted : ((d : ℕ) → d < p .depth → fine d ≡ true) → sheetAnswer mode p sheet ≡ Accepted (sum (p .depth) (changedAt mode p sheet))
   unfolding sheetAnswer
   all-accepted h =
-      let z : 0 + sum (p .depth) (λ (i : ℕ). changedAt p sheet (0 + i)) ≡ sum (p .depth) (λ (i : ℕ). changedAt p sheet (0 + i)) = omega arith in
+      let z : 0 + sum (p .depth) (λ (i : ℕ). changedAt mode p sheet (0 + i)) ≡ sum (p .depth) (λ (i : ℕ). changedAt mode p sheet (0 + i)) = omega arith in
       all-from (p .depth) 0 0 (λ i l. ap fine (omega arith) ∙ h i l)
-      ∙ ap Accepted (z ∙ same-sum (p .depth) _ _ (λ i l. ap (changedAt p sheet) (omega arith)))
+      ∙ ap Accepted (z ∙ same-sum (p .depth) _ _ (λ i l. ap (changedAt mode p sheet) (omega arith)))
 
-  pub first-refused : (d : ℕ) → d < p .depth → ((e : ℕ) → e < d → fine e ≡ true) → fine d ≡ false → sheetAnswer p sheet ≡ Refused (Block d (blockVerdict p sheet d))
+  pub first-refused : (d : ℕ) → d < p .depth → ((e : ℕ) → e < d → fine e ≡ true) → fine d ≡ false → sheetAnswer mode p sheet ≡ Refused (Block d (blockVerdict mode p sheet d))
   unfolding sheetAnswer
   first-refused d l h t =
       let z : 0 + d ≡ d = omega arith in

@@ -1,6 +1,6 @@
--- The theorems of specs/Theorems.antt. On buffers of the right lengths the entry answers by its blocks; each block's verdict says what
--- the block's promises say of it.
-use mathlib.Core.Path.{_≡_, sym, ap, _∙_}
+-- The theorems of specs/Theorems.antt. On buffers of the right lengths the entry answers by its blocks; what each block's verdict says is the law on the
+-- modes.
+use mathlib.Core.Path.{_≡_, refl, sym, ap, _∙_}
 use mathlib.Core.Logic.{_≢_, _⊎_, inl, inr, ⊎-elim}
 use mathlib.Core.Bool.{Bool, true, false}
 use mathlib.Core.List.{List}
@@ -8,13 +8,16 @@ use Prim.Native.Nat.{ℕ, _+_, _*_, _/_, _%_, _<_}
 use native.Mathlib.Omega.{arith}
 use lib.ListN.{length, getD, drop, replicate}
 use lib.Seq.{getD-drop}
+use borrow.Author.Tests.{eq-eqb, ne-eqb, eqb-true}
 use Rattle.lists.specs.Choice.{pick}
+use Rattle.lists.proofs.Test.{true-false}
 use Rattle.lists.specs.Bytes.{Bytes}
 use Rattle.profile.specs.Profile.{InRange, messageLength}
 use Rattle.block.specs.Numbers.{verdictNumber, writtenNumber}
 use Rattle.block.specs.Runs.{Cells, Word}
 use Rattle.profile.specs.declared.Profile.{Profile}
 use Rattle.block.proofs.Encoding.{encode-codeword, encode-message}
+use Rattle.sheet.specs.declared.Mode.{Mode}
 use Rattle.sheet.specs.declared.Refusal.the-variants.{Block}
 use Rattle.sheet.specs.declared.Reading.{Reading}
 use Rattle.sheet.specs.declared.Reading.the-variants.{Refused, Accepted}
@@ -24,7 +27,7 @@ use Rattle.sheet.specs.Buffers.{Payload, Sheet, Lent, differing}
 use Rattle.sheet.specs.Theorems.{WrittenSheet, WritesSheet, HasWord, RefusedBy, LowestRefused, AllWords, Accepts, ReadResults}
 use Rattle.sheet.proofs.Apart.{block-length, block-bytes, message-length, message-bytes, message-below, apart, interleave-length, interleave-bytes, same-joined, places}
 use Rattle.sheet.proofs.Lists.{getD-tab}
-use Rattle.sheet.proofs.Verdicts.{one-corrected, none-refused, two-refused, corrected-one, refused-reason}
+use Rattle.sheet.proofs.Modes.{BlockLaw, block-law}
 use Rattle.sheet.proofs.Entry.{write-rest, read-rest}
 use Rattle.sheet.proofs.Reader.{first-false, same-sum, all-accepted, first-refused}
 
@@ -88,92 +91,97 @@ pub block-cells : (p : Profile) (sheet : List ℕ) (d : ℕ) → Bytes sheet →
 unfolding readBlock
 block-cells p sheet d h = record { count = block-length (p .depth) (p .n) sheet d; bytes = block-bytes (p .depth) (p .n) sheet d h }
 
-module _ (p : Profile) (sheet : List ℕ) (v : InRange p) (h : Bytes sheet) where
+module _ (mode : Mode) (p : Profile) (sheet : List ℕ) (v : InRange p) (h : Bytes sheet) where
   abbrev fine : ℕ → Bool
-  fine d = isCorrected (blockVerdict p sheet d)
+  fine d = isCorrected (blockVerdict mode p sheet d)
 
-  word-fine : (d : ℕ) (c : List ℕ) → HasWord p sheet d c → (fine d ≡ true) × (codeword p sheet d ≡ c)
+  -- what the verdict on block d means
+  law : (d : ℕ) → BlockLaw mode p (readBlock p sheet d)
+  law d = block-law mode p (readBlock p sheet d) v (block-cells p sheet d h)
+
+  word-fine : (d : ℕ) (c : List ℕ) → HasWord mode p sheet d c → (fine d ≡ true) × (codeword mode p sheet d ≡ c)
   unfolding blockVerdict codeword
-  word-fine d c w = one-corrected p (readBlock p sheet d) v (block-cells p sheet d h) (w .0) (w .1) c (w .2)
+  word-fine d c w = let q = law d .accepted c .1 w in (eq-eqb _ _ (q .0), q .1)
 
-  fine-word : (d : ℕ) → fine d ≡ true → HasWord p sheet d (codeword p sheet d)
+  fine-word : (d : ℕ) → fine d ≡ true → HasWord mode p sheet d (codeword mode p sheet d)
   unfolding blockVerdict codeword
-  fine-word d t = corrected-one p (readBlock p sheet d) v (block-cells p sheet d h) t
+  fine-word d t = law d .accepted (codeword mode p sheet d) .0 (eqb-true _ _ t, refl)
 
-  refused-not-fine : (d number : ℕ) → RefusedBy p sheet d number → (fine d ≡ false) × (verdictNumber (blockVerdict p sheet d) ≡ number)
+  refused-number : (d number : ℕ) → RefusedBy mode p sheet d number → (verdictNumber (blockVerdict mode p sheet d) ≡ number) × (number ≢ 0)
   unfolding blockVerdict
-  refused-not-fine d number r =
-      ⊎-elim (λ n. let q = none-refused p (readBlock p sheet d) v (block-cells p sheet d h) (n .1) in (q .1, q .0 ∙ sym (n .0)))
-      (λ z. let q = two-refused p (readBlock p sheet d) v (block-cells p sheet d h) (z .1) in (q .1, q .0 ∙ sym (z .0))) r
+  refused-number d number r = law d .refused number .1 r
 
-  not-fine-refused : (d : ℕ) → fine d ≡ false → RefusedBy p sheet d (verdictNumber (blockVerdict p sheet d))
+  refused-not-fine : (d number : ℕ) → RefusedBy mode p sheet d number → fine d ≡ false
+  refused-not-fine d number r = let q = refused-number d number r in ne-eqb _ _ (λ e. q .1 (sym (q .0) ∙ e))
+
+  not-fine-refused : (d : ℕ) → fine d ≡ false → RefusedBy mode p sheet d (verdictNumber (blockVerdict mode p sheet d))
   unfolding blockVerdict
-  not-fine-refused d t = refused-reason p (readBlock p sheet d) v (block-cells p sheet d h) t
+  not-fine-refused d t = law d .refused (verdictNumber (blockVerdict mode p sheet d)) .0 (refl, λ e. true-false (eq-eqb _ _ e) t)
 
   -- a block is refused, or each has a codeword
-  pub one-or-all : ((d number : ℕ) × LowestRefused p sheet d number) ⊎ ((words : ℕ → List ℕ) × AllWords p sheet words)
+  pub one-or-all : ((d number : ℕ) × LowestRefused mode p sheet d number) ⊎ ((words : ℕ → List ℕ) × AllWords mode p sheet words)
   one-or-all =
-      ⊎-elim (λ a. inr (codeword p sheet, (λ d l. fine-word d (a d l))))
+      ⊎-elim (λ a. inr (codeword mode p sheet, (λ d l. fine-word d (a d l))))
       (λ z. inl (
         z .0,
-        verdictNumber (blockVerdict p sheet (z .0)),
-        record { below = z .1; refused = not-fine-refused (z .0) (z .3); before = λ e l. (codeword p sheet e, fine-word e (z .2 e l)) },
+        verdictNumber (blockVerdict mode p sheet (z .0)),
+        record { below = z .1; refused = not-fine-refused (z .0) (z .3); before = λ e l. (codeword mode p sheet e, fine-word e (z .2 e l)) },
       )) (first-false fine (p .depth))
 
-  pub lowest-answer : (d number : ℕ) → LowestRefused p sheet d number → (readingNumber (sheetAnswer p sheet) ≡ number) × (readingPlace (sheetAnswer p sheet) ≡ d)
+  pub lowest-answer : (d number : ℕ) → LowestRefused mode p sheet d number → (readingNumber (sheetAnswer mode p sheet) ≡ number) × (readingPlace (sheetAnswer mode p sheet) ≡ d)
   lowest-answer d number o =
-      let q = refused-not-fine d number (o .refused) in
-      let a : sheetAnswer p sheet ≡ Refused (Block d (blockVerdict p sheet d)) = first-refused p sheet d (o .below) (λ e l. word-fine e (o .before e l .0) (o .before e l .1) .0) (q .0) in
-      (ap readingNumber a ∙ q .1, ap readingPlace a)
+      let q = refused-number d number (o .refused) in
+      let a : sheetAnswer mode p sheet ≡ Refused (Block d (blockVerdict mode p sheet d)) = first-refused mode p sheet d (o .below) (λ e l. word-fine e (o .before e l .0) (o .before e l .1) .0) (refused-not-fine d number (o .refused)) in
+      (ap readingNumber a ∙ q .0, ap readingPlace a)
 
-  module _ (words : ℕ → List ℕ) (a : AllWords p sheet words) where
-    same-changed : (d : ℕ) → d < p .depth → _≡_ {A = ℕ} (changedAt p sheet d) (pick (differ (words d) (readBlock p sheet d)) 1 0)
+  module _ (words : ℕ → List ℕ) (a : AllWords mode p sheet words) where
+    same-changed : (d : ℕ) → d < p .depth → _≡_ {A = ℕ} (changedAt mode p sheet d) (pick (differ (words d) (readBlock p sheet d)) 1 0)
     unfolding changedAt
     same-changed d l = rw (word-fine d (words d) (a d l) .1)
 
-    pub words-answer : sheetAnswer p sheet ≡ Accepted (differing (p .depth) words (readBlock p sheet))
+    pub words-answer : sheetAnswer mode p sheet ≡ Accepted (differing (p .depth) words (readBlock p sheet))
     words-answer =
-        all-accepted p sheet (λ d l. word-fine d (words d) (a d l) .0)
-        ∙ ap Accepted (same-sum (p .depth) (changedAt p sheet) (λ (d : ℕ). pick (differ (words d) (readBlock p sheet d)) 1 0) same-changed)
+        all-accepted mode p sheet (λ d l. word-fine d (words d) (a d l) .0)
+        ∙ ap Accepted (same-sum (p .depth) (changedAt mode p sheet) (λ (d : ℕ). pick (differ (words d) (readBlock p sheet d)) 1 0) same-changed)
 
-    pub words-payload : sheetPayload p sheet ≡ joined (p .depth) (messageLength p) (λ (d : ℕ). drop (p .r) (words d))
+    pub words-payload : sheetPayload mode p sheet ≡ joined (p .depth) (messageLength p) (λ (d : ℕ). drop (p .r) (words d))
     unfolding sheetPayload
     words-payload =
-        same-joined (p .depth) (messageLength p) (λ (d : ℕ). drop (p .r) (codeword p sheet d)) (λ (d : ℕ). drop (p .r) (words d))
+        same-joined (p .depth) (messageLength p) (λ (d : ℕ). drop (p .r) (codeword mode p sheet d)) (λ (d : ℕ). drop (p .r) (words d))
         (λ d l. ap (drop (p .r)) (word-fine d (words d) (a d l) .1))
 
 -- the entry, where profile and lengths are right
-module _ (p : Profile) (sheet scratch out : List ℕ) (v : InRange p) (h : Lent p sheet scratch out) where
+module _ (mode : Mode) (p : Profile) (sheet scratch out : List ℕ) (v : InRange p) (h : Lent p sheet scratch out) where
   abbrev answer : Reading
-  answer = readAnswer p sheet scratch out
+  answer = readAnswer mode p sheet scratch out
 
-  rest : (answer ≡ sheetAnswer p sheet) × (readScratch p sheet scratch out ≡ replicate (length scratch) 0)
-      × (readPayload p sheet scratch out ≡ pick (isAccepted (sheetAnswer p sheet)) (sheetPayload p sheet) out)
-  rest = read-rest p sheet scratch out v (h .cells .count) (h .scratch-count) (h .out-count)
+  rest : (answer ≡ sheetAnswer mode p sheet) × (readScratch mode p sheet scratch out ≡ replicate (length scratch) 0)
+      × (readPayload mode p sheet scratch out ≡ pick (isAccepted (sheetAnswer mode p sheet)) (sheetPayload mode p sheet) out)
+  rest = read-rest mode p sheet scratch out v (h .cells .count) (h .scratch-count) (h .out-count)
 
-  lowest : (d number : ℕ) → LowestRefused p sheet d number → (readingNumber answer ≡ number) × (readingPlace answer ≡ d)
+  lowest : (d number : ℕ) → LowestRefused mode p sheet d number → (readingNumber answer ≡ number) × (readingPlace answer ≡ d)
   lowest d number o =
-      let q = lowest-answer p sheet v (h .cells .bytes) d number o in
+      let q = lowest-answer mode p sheet v (h .cells .bytes) d number o in
       (ap readingNumber (rest .0) ∙ q .0, ap readingPlace (rest .0) ∙ q .1)
 
   -- the answer itself, and what it says by numbers
-  pub read-accepts : (words : ℕ → List ℕ) → AllWords p sheet words → (answer ≡ Accepted (differing (p .depth) words (readBlock p sheet))) × Accepts p sheet scratch out words
+  pub read-accepts : (words : ℕ → List ℕ) → AllWords mode p sheet words → (answer ≡ Accepted (differing (p .depth) words (readBlock p sheet))) × Accepts mode p sheet scratch out words
   read-accepts words a =
-      let q = words-answer p sheet v (h .cells .bytes) words a in
+      let q = words-answer mode p sheet v (h .cells .bytes) words a in
       let e : answer ≡ Accepted (differing (p .depth) words (readBlock p sheet)) = rest .0 ∙ q in (
         e,
         record {
           number = ap readingNumber e;
           place = ap readingPlace e;
           changed = ap readingChanged e;
-          payload = rest .2 ∙ rw q (words-payload p sheet v (h .cells .bytes) words a);
+          payload = rest .2 ∙ rw q (words-payload mode p sheet v (h .cells .bytes) words a);
         },
       )
 
-  pub all-words : (words : ℕ → List ℕ) → AllWords p sheet words → Accepts p sheet scratch out words
+  pub all-words : (words : ℕ → List ℕ) → AllWords mode p sheet words → Accepts mode p sheet scratch out words
   all-words words a = read-accepts words a .1
 
-  refusal-lowest : (d number : ℕ) → number ≢ 0 → (readingNumber answer ≡ number) × (readingPlace answer ≡ d) → LowestRefused p sheet d number
+  refusal-lowest : (d number : ℕ) → number ≢ 0 → (readingNumber answer ≡ number) × (readingPlace answer ≡ d) → LowestRefused mode p sheet d number
   refusal-lowest d number n q =
       ⊎-elim
       (λ z.
@@ -181,20 +189,19 @@ module _ (p : Profile) (sheet scratch out : List ℕ) (v : InRange p) (h : Lent 
       let i : z .0 ≡ d = sym (k .1) ∙ q .1 in
       let j : z .1 ≡ number = sym (k .0) ∙ q .0 in
       rw (sym i, sym j) (z .2))
-      (λ z. absurd (n (sym (q .0) ∙ all-words (z .0) (z .1) .number))) (one-or-all p sheet v (h .cells .bytes))
+      (λ z. absurd (n (sym (q .0) ∙ all-words (z .0) (z .1) .number))) (one-or-all mode p sheet v (h .cells .bytes))
 
-  -- a block is refused by no other numbers than 3 and 4
-  refused-some : (d number : ℕ) → LowestRefused p sheet d number → number ≢ 0
-  refused-some d number o = ⊎-elim (λ n e. let q : number ≡ 3 = n .0 in omega arith) (λ z e. let q : number ≡ 4 = z .0 in omega arith) (o .refused)
+  refused-some : (d number : ℕ) → LowestRefused mode p sheet d number → number ≢ 0
+  refused-some d number o = refused-number mode p sheet v (h .cells .bytes) d number (o .refused) .1
 
-  accepted-words : readingNumber answer ≡ 0 → (words : ℕ → List ℕ) × AllWords p sheet words
-  accepted-words q = ⊎-elim (λ z. absurd (refused-some (z .0) (z .1) (z .2) (sym (lowest (z .0) (z .1) (z .2) .0) ∙ q))) (λ z. z) (one-or-all p sheet v (h .cells .bytes))
+  accepted-words : readingNumber answer ≡ 0 → (words : ℕ → List ℕ) × AllWords mode p sheet words
+  accepted-words q = ⊎-elim (λ z. absurd (refused-some (z .0) (z .1) (z .2) (sym (lowest (z .0) (z .1) (z .2) .0) ∙ q))) (λ z. z) (one-or-all mode p sheet v (h .cells .bytes))
 
 pub read-results : ReadResults
-read-results p sheet scratch out v h = record {
-  some = one-or-all p sheet v (h .cells .bytes);
-  refused = λ d number n. (refusal-lowest p sheet scratch out v h d number n, lowest p sheet scratch out v h d number);
-  accepted = (accepted-words p sheet scratch out v h, λ z. all-words p sheet scratch out v h (z .0) (z .1) .number);
-  accepts = all-words p sheet scratch out v h;
-  cleared = rest p sheet scratch out v h .1;
+read-results mode p sheet scratch out v h = record {
+  some = one-or-all mode p sheet v (h .cells .bytes);
+  refused = λ d number n. (refusal-lowest mode p sheet scratch out v h d number n, lowest mode p sheet scratch out v h d number);
+  accepted = (accepted-words mode p sheet scratch out v h, λ z. all-words mode p sheet scratch out v h (z .0) (z .1) .number);
+  accepts = all-words mode p sheet scratch out v h;
+  cleared = rest mode p sheet scratch out v h .1;
 }

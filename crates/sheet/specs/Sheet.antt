@@ -1,5 +1,6 @@
 -- The sheet of document 01 (clauses S1 to S6, E1 to E5): how its blocks lie in it, what the writer and the reader answer, and what they
--- leave in every lent buffer. Refusal 1 goes before 2, and 2 before the rest. Blocks are written and corrected by the block crate's definitions.
+-- leave in every lent buffer. Refusal 1 goes before 2, and 2 before the rest. Blocks are written by the block crate's definition, and
+-- read in a mode by those of Modes.antt.
 use mathlib.Core.Bool.{Bool, true, false}
 use mathlib.Core.List.{List, [], _∷_}
 use Prim.Native.Nat.{ℕ, zero, suc, _+_, _*_, _/_, _%_}
@@ -8,12 +9,14 @@ use lib.ListN.{length, getD, take, drop, replicate}
 use Rattle.lists.specs.Choice.{pick, both}
 use Rattle.profile.specs.Profile.{messageLength}
 use Rattle.profile.specs.Refusals.{refusing}
-use Rattle.block.specs.Block.{encode, verdict, corrected}
+use Rattle.block.specs.Block.{encode}
 use Rattle.block.specs.Numbers.{verdictNumber}
 use Rattle.profile.specs.declared.Profile.{Profile}
 use Rattle.block.specs.declared.Verdict.{Verdict}
 use Rattle.block.specs.declared.Written.{Written}
 use Rattle.block.specs.declared.Written.the-variants as writes
+use Rattle.sheet.specs.declared.Mode.{Mode}
+use Rattle.sheet.specs.Modes.{verdictIn, wordIn}
 use Rattle.sheet.specs.declared.Refusal.the-variants.{BadProfile, WrongLength, Block}
 use Rattle.sheet.specs.declared.Reading.{Reading}
 use Rattle.sheet.specs.declared.Reading.the-variants.{Refused, Accepted}
@@ -62,17 +65,18 @@ writeSheetLeaves p payload sheet = refusing p (writeSheetFits p (length payload)
 
 -- ---- reading
 
-module _ (p : Profile) (sheet : List ℕ) where
-  -- the cells read of block d, and their verdict
-  unfoldable pub readBlock : ℕ → List ℕ
-  readBlock d = blockOf (p .depth) (p .n) sheet d
+-- the cells read of block d
+unfoldable pub readBlock : Profile → List ℕ → ℕ → List ℕ
+readBlock p sheet d = blockOf (p .depth) (p .n) sheet d
 
+module _ (mode : Mode) (p : Profile) (sheet : List ℕ) where
+  -- their verdict in this mode
   unfoldable pub blockVerdict : ℕ → Verdict
-  blockVerdict d = verdict p (readBlock d)
+  blockVerdict d = verdictIn mode p (readBlock p sheet d)
 
   -- the codeword of block d, where it has one
   unfoldable pub codeword : ℕ → List ℕ
-  codeword d = corrected p (readBlock d)
+  codeword d = wordIn mode p (readBlock p sheet d)
 
 -- a block has a codeword, or is refused
 abbrev pub isCorrected : Verdict → Bool
@@ -85,17 +89,17 @@ differ [] (y ∷ d) = true
 differ (x ∷ c) [] = true
 differ (x ∷ c) (y ∷ d) = pick (eqb x y) (differ c d) true
 
-module _ (p : Profile) (sheet : List ℕ) where
+module _ (mode : Mode) (p : Profile) (sheet : List ℕ) where
   -- "blocks changed, which are those whose codeword isn't the read block": 1 for such a block, and else 0
   unfoldable pub changedAt : ℕ → ℕ
-  changedAt d = pick (differ (codeword p sheet d) (readBlock p sheet d)) 1 0
+  changedAt d = pick (differ (codeword mode p sheet d) (readBlock p sheet d)) 1 0
 
   -- what is answered where blocks below d have codewords, `changed` of them were changed, and `left` blocks are left: "If a block is
   -- refused, the sheet is refused with the lowest such block's number."
   unfoldable pub answerFrom : ℕ → ℕ → ℕ → Reading
   answerFrom zero d changed = Accepted changed
   answerFrom (suc left) d changed =
-      pick (isCorrected (blockVerdict p sheet d)) (answerFrom left (suc d) (changed + changedAt d)) (Refused (Block d (blockVerdict p sheet d)))
+      pick (isCorrected (blockVerdict mode p sheet d)) (answerFrom left (suc d) (changed + changedAt d)) (Refused (Block d (blockVerdict mode p sheet d)))
 
   -- what is answered on D × n cells
   unfoldable pub sheetAnswer : Reading
@@ -103,7 +107,7 @@ module _ (p : Profile) (sheet : List ℕ) where
 
   -- "the payload, which is the message bytes of the codewords of all its blocks"
   unfoldable pub sheetPayload : List ℕ
-  sheetPayload = joined (p .depth) (messageLength p) (λ (d : ℕ). drop (p .r) (codeword p sheet d))
+  sheetPayload = joined (p .depth) (messageLength p) (λ (d : ℕ). drop (p .r) (codeword mode p sheet d))
 
 abbrev pub isAccepted : Reading → Bool
 isAccepted (Accepted changed) = true
@@ -114,12 +118,12 @@ unfoldable pub readFits : Profile → ℕ → ℕ → ℕ → Bool
 readFits p sheet scratch payload =
     both (eqb sheet (p .depth * p .n)) (both (eqb scratch (p .depth * p .n)) (eqb payload (p .depth * messageLength p)))
 
-module _ (p : Profile) (sheet scratch payload : List ℕ) where
+module _ (mode : Mode) (p : Profile) (sheet scratch payload : List ℕ) where
   abbrev fits : Bool
   fits = readFits p (length sheet) (length scratch) (length payload)
 
   unfoldable pub readAnswer : Reading
-  readAnswer = refusing p fits (Refused BadProfile) (Refused WrongLength) (sheetAnswer p sheet)
+  readAnswer = refusing p fits (Refused BadProfile) (Refused WrongLength) (sheetAnswer mode p sheet)
 
   -- "After every result but refusals 1 and 2 the scratch is all zero"
   unfoldable pub readScratch : List ℕ
@@ -127,4 +131,4 @@ module _ (p : Profile) (sheet scratch payload : List ℕ) where
 
   -- no payload byte changes unless the sheet is accepted
   unfoldable pub readPayload : List ℕ
-  readPayload = refusing p fits payload payload (pick (isAccepted (sheetAnswer p sheet)) (sheetPayload p sheet) payload)
+  readPayload = refusing p fits payload payload (pick (isAccepted (sheetAnswer mode p sheet)) (sheetPayload mode p sheet) payload)

@@ -1,5 +1,5 @@
 -- What the entries on a sheet answer and leave, in the words of document 01, through its numbers, and with no word of how a block is searched (S1 to
--- S6, E3 to E5). What a run reaches is the block crate's, specs/Runs.antt. proofs/Theorems.antt proves each.
+-- S6, E3 to E5; document 02, Note 1), in every mode. To which codeword a block goes in a mode is in Modes.antt. proofs/Theorems.antt proves each.
 use mathlib.Core.Path.{_≡_}
 use mathlib.Core.Logic.{_↔_, _≢_, _⊎_}
 use mathlib.Core.Bool.{true, false}
@@ -8,9 +8,11 @@ use Prim.Native.Nat.{ℕ, _+_, _*_, _/_, _%_, _<_}
 use lib.ListN.{length, getD, drop, replicate}
 use Rattle.profile.specs.Profile.{InRange, messageLength}
 use Rattle.block.specs.Numbers.{writtenNumber, writtenPlace}
-use Rattle.block.specs.Runs.{Word, NoneReached, TwoReached, OneReached}
+use Rattle.block.specs.Runs.{Word}
 use Rattle.profile.specs.Refusals.{EarlyRefusals}
 use Rattle.profile.specs.declared.Profile.{Profile}
+use Rattle.sheet.specs.declared.Mode.{Mode}
+use Rattle.sheet.specs.Modes.{GoesTo, BlockRefusedBy}
 use Rattle.sheet.specs.Sheet.{interleave, blockOf, joined, messageOf, writeSheetAnswer, writeSheetLeaves, readBlock, differ, readAnswer, readScratch, readPayload}
 use Rattle.sheet.specs.Numbers.{readingNumber, readingPlace, readingChanged}
 pub use Rattle.sheet.specs.Buffers.{Payload, Lent, differing}
@@ -48,14 +50,14 @@ WritesSheet = (p : Profile) (m cells : List ℕ) → InRange p → Payload p m �
 
 -- ---- 3. S3 to S6: a sheet that is read
 
-module _ (p : Profile) (sheet : List ℕ) where
-  -- c is the codeword to which block d goes: the only one at the least length within L
+module _ (mode : Mode) (p : Profile) (sheet : List ℕ) where
+  -- c is the codeword to which block d goes
   abbrev pub HasWord : ℕ → List ℕ → Type 0
-  HasWord d c = (s f : ℕ) × OneReached p (readBlock p sheet d) s f c
+  HasWord d c = GoesTo mode p (readBlock p sheet d) c
 
-  -- the number by which block d is refused: 3 torn, 4 tied
+  -- the number by which block d is refused
   abbrev pub RefusedBy : ℕ → ℕ → Type 0
-  RefusedBy d number = ((number ≡ 3) × NoneReached p (readBlock p sheet d)) ⊎ ((number ≡ 4) × TwoReached p (readBlock p sheet d))
+  RefusedBy d number = BlockRefusedBy mode p (readBlock p sheet d) number
 
   -- block d is the lowest that is refused, and that is its number
   pub record LowestRefused (d number : ℕ) : Type 0 where
@@ -72,30 +74,30 @@ abbrev pub DifferIff : Type 0
 DifferIff = (c d : List ℕ) → ((differ c d ≡ true) ↔ (c ≢ d)) × ((differ c d ≡ false) ↔ (c ≡ d))
 
 -- the reader's answer, scratch and payload buffer
-module _ (p : Profile) (sheet scratch out : List ℕ) where
+module _ (mode : Mode) (p : Profile) (sheet scratch out : List ℕ) where
   -- "With an accepted sheet come the payload, which is the message bytes of the codewords of all its blocks, and the number of blocks changed, which are
   -- those whose codeword isn't the read block."
   pub record Accepts (words : ℕ → List ℕ) : Type 0 where
-    pub number : readingNumber (readAnswer p sheet scratch out) ≡ 0
-    pub place : readingPlace (readAnswer p sheet scratch out) ≡ 0
-    pub changed : readingChanged (readAnswer p sheet scratch out) ≡ differing (p .depth) words (readBlock p sheet)
-    pub payload : readPayload p sheet scratch out ≡ joined (p .depth) (messageLength p) (λ (d : ℕ). drop (p .r) (words d))
+    pub number : readingNumber (readAnswer mode p sheet scratch out) ≡ 0
+    pub place : readingPlace (readAnswer mode p sheet scratch out) ≡ 0
+    pub changed : readingChanged (readAnswer mode p sheet scratch out) ≡ differing (p .depth) words (readBlock p sheet)
+    pub payload : readPayload mode p sheet scratch out ≡ joined (p .depth) (messageLength p) (λ (d : ℕ). drop (p .r) (words d))
 
   -- every result on buffers of the right lengths
   pub record Results : Type 0 where
     -- a block is refused, or each has a codeword
-    pub some : ((d number : ℕ) × LowestRefused p sheet d number) ⊎ ((words : ℕ → List ℕ) × AllWords p sheet words)
+    pub some : ((d number : ℕ) × LowestRefused mode p sheet d number) ⊎ ((words : ℕ → List ℕ) × AllWords mode p sheet words)
     -- S3: "A sheet is refused exactly when a block of it is, with the lowest such block's number and reason"
     pub refused : (d number : ℕ) → number ≢ 0
-        → ((readingNumber (readAnswer p sheet scratch out) ≡ number) × (readingPlace (readAnswer p sheet scratch out) ≡ d)) ↔ LowestRefused p sheet d number
+        → ((readingNumber (readAnswer mode p sheet scratch out) ≡ number) × (readingPlace (readAnswer mode p sheet scratch out) ≡ d)) ↔ LowestRefused mode p sheet d number
     -- S4
-    pub accepted : (readingNumber (readAnswer p sheet scratch out) ≡ 0) ↔ ((words : ℕ → List ℕ) × AllWords p sheet words)
-    pub accepts : (words : ℕ → List ℕ) → AllWords p sheet words → Accepts words
+    pub accepted : (readingNumber (readAnswer mode p sheet scratch out) ≡ 0) ↔ ((words : ℕ → List ℕ) × AllWords mode p sheet words)
+    pub accepts : (words : ℕ → List ℕ) → AllWords mode p sheet words → Accepts words
     -- S6: "After every result but refusals 1 and 2 the scratch is all zero."
-    pub cleared : readScratch p sheet scratch out ≡ replicate (length scratch) 0
+    pub cleared : readScratch mode p sheet scratch out ≡ replicate (length scratch) 0
 
 abbrev pub ReadResults : Type 0
-ReadResults = (p : Profile) (sheet scratch out : List ℕ) → InRange p → Lent p sheet scratch out → Results p sheet scratch out
+ReadResults = (mode : Mode) (p : Profile) (sheet scratch out : List ℕ) → InRange p → Lent p sheet scratch out → Results mode p sheet scratch out
 
 -- ---- 4. E3, E4, S5, S6: every refusal
 
@@ -106,13 +108,13 @@ pub record WriteSheetRefusals (p : Profile) (m cells : List ℕ) : Type 0 where
   pub kept : writtenNumber (writeSheetAnswer p m cells) ≢ 0 → writeSheetLeaves p m cells ≡ cells
 
 -- the reader: refusals 1 and 2 have place 0 and leave the scratch; after every refusal the payload buffer is unchanged
-pub record ReadRefusals (p : Profile) (sheet scratch out : List ℕ) : Type 0 where
-  pub early : EarlyRefusals p ((length sheet ≡ p .depth * p .n) × (length scratch ≡ p .depth * p .n) × (length out ≡ p .depth * messageLength p)) (readingNumber (readAnswer p sheet scratch out))
-  pub place : (readingNumber (readAnswer p sheet scratch out) ≡ 1) ⊎ (readingNumber (readAnswer p sheet scratch out) ≡ 2) → readingPlace (readAnswer p sheet scratch out) ≡ 0
-  pub scratch-kept : (readingNumber (readAnswer p sheet scratch out) ≡ 1) ⊎ (readingNumber (readAnswer p sheet scratch out) ≡ 2) → readScratch p sheet scratch out ≡ scratch
-  pub out-kept : readingNumber (readAnswer p sheet scratch out) ≢ 0 → readPayload p sheet scratch out ≡ out
-  pub changed : readingNumber (readAnswer p sheet scratch out) ≢ 0 → readingChanged (readAnswer p sheet scratch out) ≡ 0
+pub record ReadRefusals (mode : Mode) (p : Profile) (sheet scratch out : List ℕ) : Type 0 where
+  pub early : EarlyRefusals p ((length sheet ≡ p .depth * p .n) × (length scratch ≡ p .depth * p .n) × (length out ≡ p .depth * messageLength p)) (readingNumber (readAnswer mode p sheet scratch out))
+  pub place : (readingNumber (readAnswer mode p sheet scratch out) ≡ 1) ⊎ (readingNumber (readAnswer mode p sheet scratch out) ≡ 2) → readingPlace (readAnswer mode p sheet scratch out) ≡ 0
+  pub scratch-kept : (readingNumber (readAnswer mode p sheet scratch out) ≡ 1) ⊎ (readingNumber (readAnswer mode p sheet scratch out) ≡ 2) → readScratch mode p sheet scratch out ≡ scratch
+  pub out-kept : readingNumber (readAnswer mode p sheet scratch out) ≢ 0 → readPayload mode p sheet scratch out ≡ out
+  pub changed : readingNumber (readAnswer mode p sheet scratch out) ≢ 0 → readingChanged (readAnswer mode p sheet scratch out) ≡ 0
 
 pub record SheetRefusals (p : Profile) : Type 0 where
   pub writes : (m cells : List ℕ) → WriteSheetRefusals p m cells
-  pub reads : (sheet scratch out : List ℕ) → ReadRefusals p sheet scratch out
+  pub reads : (mode : Mode) (sheet scratch out : List ℕ) → ReadRefusals mode p sheet scratch out

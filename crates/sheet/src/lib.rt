@@ -1,16 +1,24 @@
-// The sheet of document 01: D interleaved blocks, written from a payload and read back with every block corrected.
+// The sheet of document 01: D interleaved blocks, written from a payload and read back with every block corrected. There is one reader for every
+// mode; a mode is how one block is corrected.
 ghost use mathlib.Core.Path.{_≡_};
 ghost use Prim.Native.Nat.{_+_, _*_, _≤_, _<_};
 ghost use lib.ListN.{length, replicate};
 ghost use Rattle.profile.specs.Profile.{InRange, messageLength};
 ghost use Rattle.block.specs.Block.{encode};
 ghost use Rattle.sheet.specs.Sheet.{blockOf, joined, writtenSheet, readBlock, readAnswer, readScratch, readPayload, writeSheetAnswer, writeSheetLeaves, isCorrected, isAccepted, readFits, writeSheetFits};
-ghost use Rattle.sheet.specs.Steps.{Laid, CorrectedInto, CorrectedAll, changedBy, messageAt};
+ghost use Rattle.sheet.specs.Steps.{Laid, answerIn, leavesIn, CorrectedInto, CorrectedAll, changedBy, messageAt};
 use block::Verdict;
 use block::Written;
 use profile::Profile;
 
 mod numbers;
+
+/// How the blocks of a sheet are read: each goes to the codeword within the shortest run, at most L cells long, or (document 02, Note 1) to the
+/// codeword that differs in the fewest cells, at most h anywhere in the block.
+pub enum Mode {
+    Burst,
+    Spots,
+}
 
 /// Why a sheet is refused. Document 01 calls the first two misprint and wrong frame; the third has the block's number and its verdict.
 pub enum Refusal {
@@ -38,7 +46,10 @@ fn is_corrected(v: Verdict) -> bool
 fn changed_by(v: Verdict) -> usize
     ensures { λ r. ⌜ r ≡ changedBy v ⌝ }
 {
-    if v.length() == 0 {
+    if v.length() != 0 {
+        return 1;
+    }
+    if v.count() == 0 {
         return 0;
     }
     1
@@ -158,31 +169,42 @@ fn gather_blocks(p: Profile, sheet: &[u8], scratch: &mut [u8])
     }
 }
 
-// A block corrected in place, with the read cells in `word` meanwhile.
-fn correct_with(p: Profile, word: &mut [u8], part: &mut [u8]) -> Verdict
-    requires { ⌜ InRange p ⌝ }
-    requires { ⌜ (length (now part) ≡ p .n) × (length (now word) ≡ p .n) ⌝ }
-    ensures { λ r. ⌜ CorrectedInto p (now (part .entry)) r (now (part .exit)) ⌝ }
+// A block corrected in a mode: by the corrector of that mode.
+fn correct_in(mode: Mode, p: Profile, read: &[u8], out: &mut [u8]) -> Verdict
+    ensures { λ r. ⌜ r ≡ answerIn mode p (now (read .entry)) (now (out .entry)) ⌝ }
+    ensures { λ _. ⌜ now (out .exit) ≡ leavesIn mode p (now (read .entry)) (now (out .entry)) ⌝ }
 {
-    bytes::copy(part, word);
-    block::correct(p, word, part)
+    match mode {
+        Mode::Burst => block::correct(p, read, out),
+        Mode::Spots => spots::correct(p, read, out),
+    }
 }
 
-fn correct_block(p: Profile, part: &mut [u8]) -> Verdict
+// A block corrected in place, with the read cells in `word` meanwhile.
+fn correct_with(mode: Mode, p: Profile, word: &mut [u8], part: &mut [u8]) -> Verdict
+    requires { ⌜ InRange p ⌝ }
+    requires { ⌜ (length (now part) ≡ p .n) × (length (now word) ≡ p .n) ⌝ }
+    ensures { λ r. ⌜ CorrectedInto mode p (now (part .entry)) r (now (part .exit)) ⌝ }
+{
+    bytes::copy(part, word);
+    correct_in(mode, p, word, part)
+}
+
+fn correct_block(mode: Mode, p: Profile, part: &mut [u8]) -> Verdict
     requires { ⌜ InRange p ⌝ }
     requires { ⌜ length (now part) ≡ p .n ⌝ }
-    ensures { λ r. ⌜ CorrectedInto p (now (part .entry)) r (now (part .exit)) ⌝ }
+    ensures { λ r. ⌜ CorrectedInto mode p (now (part .entry)) r (now (part .exit)) ⌝ }
 {
     let mut word = [0u8; 255];
     let n = p.n;
-    correct_with(p, &mut word[..n], part)
+    correct_with(mode, p, &mut word[..n], part)
 }
 
 // Every block of the sheet, gathered into the scratch and corrected there, or the first that is refused.
-fn correct_blocks(p: Profile, sheet: &[u8], scratch: &mut [u8]) -> Reading
+fn correct_blocks(mode: Mode, p: Profile, sheet: &[u8], scratch: &mut [u8]) -> Reading
     requires { ⌜ InRange p ⌝ }
     requires { ⌜ (length (now sheet) ≡ p .depth * p .n) × (length (now scratch) ≡ p .depth * p .n) ⌝ }
-    ensures { λ r. ⌜ CorrectedAll p (now (sheet .entry)) r (now (scratch .exit)) ⌝ }
+    ensures { λ r. ⌜ CorrectedAll mode p (now (sheet .entry)) r (now (scratch .exit)) ⌝ }
 {
     gather_blocks(p, sheet, scratch);
     let n = p.n;
@@ -191,7 +213,7 @@ fn correct_blocks(p: Profile, sheet: &[u8], scratch: &mut [u8]) -> Reading
     let mut d: usize = 0;
     while d < blocks {
         let a = d * n;
-        let v = correct_block(p, &mut scratch[a..a + n]);
+        let v = correct_block(mode, p, &mut scratch[a..a + n]);
         if !is_corrected(v) {
             return Reading::Refused(Refusal::Block {
                 number: d,
@@ -204,12 +226,18 @@ fn correct_blocks(p: Profile, sheet: &[u8], scratch: &mut [u8]) -> Reading
     Reading::Accepted { changed }
 }
 
-/// Reads a sheet of D × n cells: every block is corrected in the scratch (D × n bytes) before a byte of the payload (D × k bytes) is
+/// Reads a sheet of D × n cells in a mode: every block is corrected in the scratch (D × n bytes) before a byte of the payload (D × k bytes) is
 /// written. After every result but the refusals 1 and 2 the scratch is all zero.
-pub fn read(p: Profile, sheet: &[u8], scratch: &mut [u8], payload: &mut [u8]) -> Reading
-    ensures { λ r. ⌜ r ≡ readAnswer p (now (sheet .entry)) (now (scratch .entry)) (now (payload .entry)) ⌝ }
-    ensures { λ _. ⌜ now (scratch .exit) ≡ readScratch p (now (sheet .entry)) (now (scratch .entry)) (now (payload .entry)) ⌝ }
-    ensures { λ _. ⌜ now (payload .exit) ≡ readPayload p (now (sheet .entry)) (now (scratch .entry)) (now (payload .entry)) ⌝ }
+pub fn read_in(
+    mode: Mode,
+    p: Profile,
+    sheet: &[u8],
+    scratch: &mut [u8],
+    payload: &mut [u8],
+) -> Reading
+    ensures { λ r. ⌜ r ≡ readAnswer mode p (now (sheet .entry)) (now (scratch .entry)) (now (payload .entry)) ⌝ }
+    ensures { λ _. ⌜ now (scratch .exit) ≡ readScratch mode p (now (sheet .entry)) (now (scratch .entry)) (now (payload .entry)) ⌝ }
+    ensures { λ _. ⌜ now (payload .exit) ≡ readPayload mode p (now (sheet .entry)) (now (scratch .entry)) (now (payload .entry)) ⌝ }
 {
     if !p.in_range() {
         return Reading::Refused(Refusal::BadProfile);
@@ -217,7 +245,7 @@ pub fn read(p: Profile, sheet: &[u8], scratch: &mut [u8], payload: &mut [u8]) ->
     if !read_fits(p, sheet.len(), scratch.len(), payload.len()) {
         return Reading::Refused(Refusal::WrongLength);
     }
-    let answer = correct_blocks(p, sheet, scratch);
+    let answer = correct_blocks(mode, p, sheet, scratch);
     if !is_accepted(answer) {
         clear(scratch);
         return answer;
@@ -225,6 +253,15 @@ pub fn read(p: Profile, sheet: &[u8], scratch: &mut [u8], payload: &mut [u8]) ->
     copy_messages(p, scratch, payload);
     clear(scratch);
     answer
+}
+
+/// Reads a sheet in burst mode.
+pub fn read(p: Profile, sheet: &[u8], scratch: &mut [u8], payload: &mut [u8]) -> Reading
+    ensures { λ r. ⌜ r ≡ readAnswer Mode.Burst p (now (sheet .entry)) (now (scratch .entry)) (now (payload .entry)) ⌝ }
+    ensures { λ _. ⌜ now (scratch .exit) ≡ readScratch Mode.Burst p (now (sheet .entry)) (now (scratch .entry)) (now (payload .entry)) ⌝ }
+    ensures { λ _. ⌜ now (payload .exit) ≡ readPayload Mode.Burst p (now (sheet .entry)) (now (scratch .entry)) (now (payload .entry)) ⌝ }
+{
+    read_in(Mode::Burst, p, sheet, scratch, payload)
 }
 
 // Writes a message into `word`, and lays it as block d of the sheet.

@@ -1,4 +1,4 @@
-// Document 01's number, place and values of what reading a sheet answers. Each function is one match, and its contract is the definition of
+// The documents' number, place and values of what reading a sheet answers. Each function is one match, and its contract is the definition of
 // specs/Numbers.antt.
 use crate::Reading;
 use crate::Refusal;
@@ -6,7 +6,7 @@ ghost use mathlib.Core.Path.{_≡_};
 ghost use Rattle.sheet.specs.Numbers.{refusalNumber, refusalPlace, readingNumber, readingPlace, readingChanged};
 
 impl Refusal {
-    /// Document 01's number of a refusal.
+    /// The documents' number of a refusal.
     pub fn number(self) -> usize
         ensures { λ r. ⌜ r ≡ refusalNumber self ⌝ }
     {

@@ -1,7 +1,8 @@
 // Writes and reads the sheets of document 01 and prints what comes out, in decimal. The file stdout has the expected lines: the cells,
-// the payload and the numbers are those of document 01, "The plot lister" and "Bench sheet of examples".
+// the payload and the numbers are those of document 01, "The plot lister" and "Bench sheet of examples". The last two are read in spot mode.
 use libc::STDOUT_FILENO;
 use profile::Profile;
+use sheet::Mode;
 use sheet::Reading;
 use sheet::Refusal;
 
@@ -78,8 +79,8 @@ fn read_worked(cells: [u8; 24], limit: usize) {
     print_reading(reading, &payload, &scratch);
 }
 
-// Two blocks of four cells: 8 14 7 1, and 8 14 0 0, which is refused.
-fn read_small(limit: usize) {
+// Two blocks of four cells.
+fn read_small(mode: Mode, cells: [u8; 8], limit: usize) {
     let p = Profile {
         n: 4,
         r: 3,
@@ -87,10 +88,9 @@ fn read_small(limit: usize) {
         limit,
         depth: 2,
     };
-    let cells = [8u8, 8, 14, 14, 7, 0, 1, 0];
     let mut scratch = [9u8; 8];
     let mut payload = [9u8; 2];
-    let reading = sheet::read(p, &cells, &mut scratch, &mut payload);
+    let reading = sheet::read_in(mode, p, &cells, &mut scratch, &mut payload);
     print_reading(reading, &payload, &scratch);
 }
 
@@ -169,8 +169,13 @@ fn main() {
         ],
         1,
     );
-    read_small(1);
-    read_small(2);
-    read_small(3);
+    // 8 14 7 1, and 8 14 0 0, which is refused.
+    let refused = [8u8, 8, 14, 14, 7, 0, 1, 0];
+    read_small(Mode::Burst, refused, 1);
+    read_small(Mode::Burst, refused, 2);
+    read_small(Mode::Burst, refused, 3);
     read_short();
+    // 8 14 7 1 and 0 0 0 0, with one cell of each changed.
+    read_small(Mode::Spots, [9, 0, 14, 0, 7, 0, 1, 5], 0);
+    read_small(Mode::Spots, refused, 2);
 }

@@ -1,13 +1,15 @@
 // Runs the library on the vectors of standard input and prints one line of numbers for each. The files stdin and stdout were made by
 // rust/second, which shares no code with the library: `vectors library --bytes` and `vectors library --answers`;
 // rust/second/src/bin/vectors/main.rs says what a vector is. It begins with a byte for the operation (0 correct, 1 write, 2 check a block;
-// 3 write, 4 read a sheet; 5 check a payload, 6 ask it for a plot, 7 add a plot to it); a word is two bytes, the low one first.
+// 3 write, 4 read a sheet; 5 check a payload, 6 ask it for a plot, 7 add a plot to it; 8 correct a block and 9 read a sheet in spot mode); a word is
+// two bytes, the low one first.
 ghost use Prim.Native.Nat.{_<_, _≤_};
 use libc::STDIN_FILENO;
 use libc::STDOUT_FILENO;
 use plot::Added;
 use plot::Located;
 use profile::Profile;
+use sheet::Mode;
 use sheet::Reading;
 
 // ---- reading
@@ -125,6 +127,17 @@ fn correct(p: Profile) {
     cells(out);
 }
 
+fn correct_spots(p: Profile) {
+    let mut space = [0u8; 4096];
+    let read = buffer(&mut space);
+    let mut second = [170u8; 512];
+    let out = part(&mut second);
+    let v = spots::correct(p, read, out);
+    two(v.number(), v.count());
+    next(v.lowest());
+    cells(out);
+}
+
 fn write(p: Profile) {
     let mut space = [0u8; 4096];
     let message = buffer(&mut space);
@@ -152,14 +165,14 @@ fn write_sheet(p: Profile) {
     cells(sheet);
 }
 
-fn read_sheet(p: Profile) {
+fn read_sheet(m: Mode, p: Profile) {
     let mut first_space = [0u8; 4096];
     let sheet = buffer(&mut first_space);
     let mut second_space = [0u8; 4096];
     let scratch = buffer(&mut second_space);
     let mut third_space = [0u8; 4096];
     let payload = buffer(&mut third_space);
-    match sheet::read(p, sheet, scratch, payload) {
+    match sheet::read_in(m, p, sheet, scratch, payload) {
         Reading::Accepted { changed } => two(0, changed),
         Reading::Refused(r) => two(r.number(), r.place()),
     }
@@ -219,10 +232,12 @@ fn vector(o: u8) {
         1 => write(profile()),
         2 => check(profile()),
         3 => write_sheet(profile()),
-        4 => read_sheet(profile()),
+        4 => read_sheet(Mode::Burst, profile()),
         5 => check_payload(),
         6 => ask(),
-        _ => add(),
+        7 => add(),
+        8 => correct_spots(profile()),
+        _ => read_sheet(Mode::Spots, profile()),
     }
     end();
 }

@@ -14,6 +14,9 @@ pub trait Coder {
     /// Takes a clean block; whether the coder took it.
     fn check(&mut self, cells: &[u8]) -> bool;
 
-    /// Writes the corrected block to `out`; whether there is one. A coder that cannot correct answers `None`.
+    /// Writes the corrected block, a run of wrong cells put right, to `out`; whether there is one. A coder that cannot correct answers `None`.
     fn correct(&mut self, read: &[u8], out: &mut [u8]) -> Option<bool>;
+
+    /// The same for wrong cells anywhere, up to half of r.
+    fn correct_spots(&mut self, read: &[u8], out: &mut [u8]) -> Option<bool>;
 }

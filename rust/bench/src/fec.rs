@@ -75,4 +75,8 @@ impl Coder for Fec {
         out.copy_from_slice(read);
         Some(Fec::decode(self.coder, out) >= 0)
     }
+
+    fn correct_spots(&mut self, read: &[u8], out: &mut [u8]) -> Option<bool> {
+        self.correct(read, out)
+    }
 }

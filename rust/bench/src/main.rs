@@ -5,6 +5,7 @@ mod date;
 mod plot;
 mod report;
 mod sheets;
+mod spots;
 mod timing;
 
 use bench::Shape;
@@ -25,11 +26,19 @@ fn compared(shapes: &[(usize, usize)], blocks: usize) -> String {
     report::table(&times)
 }
 
+/// Spot mode with 0 to half of r wrong cells.
+fn spot_growth() -> String {
+    let shape = Shape { n: 255, r: 32, b: 1 };
+    let h = shape.half();
+    report::growth(&spots::measure(shape, &[0, 1, h / 4, h / 2, h], BLOCKS, ROUNDS))
+}
+
 fn main() {
     let table = format!(
-        "{}\nOne block again and again, instead of {BLOCKS} in turn:\n\n{}",
+        "{}\nOne block again and again, instead of {BLOCKS} in turn:\n\n{}\nSpot mode at n = 255, r = 32 by the number of wrong cells, {BLOCKS} blocks in turn:\n\n{}",
         compared(&SHAPES, BLOCKS),
-        compared(&[(255, 32)], 1)
+        compared(&[(255, 32)], 1),
+        spot_growth()
     );
     println!("{table}");
     if std::env::args().nth(1).as_deref() == Some("show") {

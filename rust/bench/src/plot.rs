@@ -11,16 +11,17 @@ const MARGIN: f64 = 48.0;
 
 struct Panel {
     label: &'static str,
-    /// The number on the axis, and the microseconds of writing, checking and correcting.
-    points: Vec<(f64, [f64; 3])>,
+    /// The number on the axis, and the microseconds of writing, checking, correcting a run and correcting spots.
+    points: Vec<(f64, [f64; 4])>,
 }
 
-fn block(n: usize, r: usize) -> [f64; 3] {
+fn block(n: usize, r: usize) -> [f64; 4] {
     let times = &measure(Shape { n, r, b: 1 }, 64, 51)[0];
-    [times.write, times.check, times.correct.unwrap_or(0.0)].map(|t| t / 1000.0)
+    let [run, spots] = [times.correct, times.spots].map(|time| time.unwrap_or(0.0));
+    [times.write, times.check, run, spots].map(|t| t / 1000.0)
 }
 
-fn sheet(depth: usize) -> [f64; 3] {
+fn sheet(depth: usize) -> [f64; 4] {
     sheets::measure(depth, 51).map(|t| t / 1000.0)
 }
 
@@ -81,7 +82,8 @@ fn drawn(panel: &Panel, left: f64) -> String {
     for (k, (name, colour)) in [
         ("writing", "#1b6ca8"),
         ("checking", "#2e8b57"),
-        ("correcting", "#b03a2e"),
+        ("a run", "#b03a2e"),
+        ("spots", "#8e5ea2"),
     ]
     .iter()
     .enumerate()
@@ -97,7 +99,7 @@ fn drawn(panel: &Panel, left: f64) -> String {
         );
         svg += &format!(
             "<text x=\"{}\" y=\"{}\" fill=\"{colour}\">{name}</text>\n",
-            left + 40.0 + 80.0 * k as f64,
+            left + 40.0 + 65.0 * k as f64,
             MARGIN - 22.0
         );
     }

@@ -28,4 +28,8 @@ impl Coder for Proved {
     fn correct(&mut self, read: &[u8], out: &mut [u8]) -> Option<bool> {
         Some(self.0.correct_block(read, out).is_ok())
     }
+
+    fn correct_spots(&mut self, read: &[u8], out: &mut [u8]) -> Option<bool> {
+        Some(self.0.correct_spots(read, out).is_ok())
+    }
 }

@@ -19,10 +19,12 @@ pub fn table(compared: &[(Shape, Vec<Times>)]) -> String {
     let mut text =
         String::from("| n | r | work | coder | time, µs | times the proved library's |\n|---|---|---|---|---|---|\n");
     for (shape, times) in compared {
-        let works: [Work; 3] = [
+        let works: [Work; 5] = [
             ("writing".into(), |t| Some(t.write)),
             ("checking a clean block".into(), |t| Some(t.check)),
             (format!("correcting a run of {}", shape.half()), |t| t.correct),
+            ("a clean block in spot mode".into(), |t| t.spots_clean),
+            (format!("correcting {} spots", shape.half()), |t| t.spots),
         ];
         for (work, time_of) in works {
             for time in times {
@@ -37,6 +39,18 @@ pub fn table(compared: &[(Shape, Vec<Times>)]) -> String {
                     own / base
                 );
             }
+        }
+    }
+    text
+}
+
+/// A line for each number of wrong cells, and a time for each coder; the ratio as in `table`.
+pub fn growth(spots: &[(usize, Vec<(&'static str, f64)>)]) -> String {
+    let mut text = String::from("| spots | coder | time, µs | times the proved library's |\n|---|---|---|---|\n");
+    for (count, times) in spots {
+        for (name, time) in times {
+            let ratio = time / times[0].1;
+            text += &format!("| {count} | {name} | {:.2} | {ratio:.1} |\n", time / 1000.0);
         }
     }
     text

@@ -1,18 +1,19 @@
-//! How long the proved library takes for whole sheets: written, read clean, and read with a scratch of D × h cells, each block's share of
-//! which is corrected.
+//! How long the proved library takes for whole sheets: written, read clean, read with a scratch of D × h cells, each block's share of
+//! which is corrected, and read in spot mode with h spots in each block.
 
 use std::hint::black_box;
 
 use second::random::Random;
-use tishwabe::Profile;
+use tishwabe::{Mode, Profile};
 
 use crate::timing::{median, nanoseconds};
 
-/// A payload, its sheet, and the sheet with a scratch.
+/// A payload, its sheet, and the sheet with a scratch and with spots.
 struct Sheet {
     payload: Vec<u8>,
     clean: Vec<u8>,
     scratched: Vec<u8>,
+    spots: Vec<u8>,
 }
 
 fn sheet(profile: Profile, random: &mut Random) -> Sheet {
@@ -25,22 +26,29 @@ fn sheet(profile: Profile, random: &mut Random) -> Sheet {
     for cell in &mut scratched[start..start + length] {
         *cell ^= random.nonzero();
     }
+    let mut spots = clean.clone();
+    for block in 0..profile.depth() {
+        for cell in random.distinct(profile.n(), profile.h()) {
+            spots[cell * profile.depth() + block] ^= random.nonzero();
+        }
+    }
     Sheet {
         payload,
         clean,
         scratched,
+        spots,
     }
 }
 
-/// Nanoseconds of writing, of reading clean and of reading scratched sheets of D blocks of n = 255, r = 32.
-pub fn measure(depth: usize, rounds: usize) -> [f64; 3] {
+/// Nanoseconds of writing, of reading clean, of reading scratched sheets, and of sheets with spots, of D blocks of n = 255, r = 32.
+pub fn measure(depth: usize, rounds: usize) -> [f64; 4] {
     let profile = Profile::new(255, 32, 1, 16, depth).expect("the profile is in range");
     let mut random = Random::new(11);
     let sheets: Vec<Sheet> = (0..16).map(|_| sheet(profile, &mut random)).collect();
     let mut written = vec![0; profile.sheet_length()];
     let mut scratch = vec![0; profile.sheet_length()];
     let mut payload = vec![0; profile.payload_length()];
-    let mut samples = [vec![], vec![], vec![]];
+    let mut samples = [const { vec![] }; 4];
     for _ in 0..rounds {
         samples[0].push(nanoseconds(&sheets, |s| {
             assert_eq!(profile.write_sheet(black_box(&s.payload), &mut written), Ok(()))
@@ -54,6 +62,13 @@ pub fn measure(depth: usize, rounds: usize) -> [f64; 3] {
         samples[2].push(nanoseconds(&sheets, |s| {
             assert_eq!(
                 profile.read_sheet(black_box(&s.scratched), &mut scratch, &mut payload),
+                Ok(depth)
+            )
+        }));
+        samples[3].push(nanoseconds(&sheets, |s| {
+            let sheet = black_box(&s.spots);
+            assert_eq!(
+                profile.read_sheet_in(Mode::Spots, sheet, &mut scratch, &mut payload),
                 Ok(depth)
             )
         }));

@@ -79,4 +79,8 @@ impl Coder for Table {
     fn correct(&mut self, _read: &[u8], _out: &mut [u8]) -> Option<bool> {
         None
     }
+
+    fn correct_spots(&mut self, _read: &[u8], _out: &mut [u8]) -> Option<bool> {
+        None
+    }
 }

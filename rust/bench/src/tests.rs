@@ -22,6 +22,13 @@ fn agree(shape: Shape, random: &mut Random) {
         if let Some(done) = coder.correct(&damaged, &mut out) {
             assert!(done && out == cells, "{}", coder.name());
         }
+        for count in [0, 1, shape.half()] {
+            let mut damaged = cells.clone();
+            random.change(&mut damaged, count);
+            if let Some(done) = coder.correct_spots(&damaged, &mut out) {
+                assert!(done && out == cells, "{}", coder.name());
+            }
+        }
         written.push(turned(coder.highest_first(), &cells));
     }
     assert!(written.iter().all(|cells| *cells == written[0]));

@@ -18,13 +18,17 @@ pub struct Times {
     pub write: f64,
     pub check: f64,
     pub correct: Option<f64>,
+    /// A clean block in spot mode.
+    pub spots_clean: Option<f64>,
+    pub spots: Option<f64>,
 }
 
-/// One block in a coder's order of cells: its message, itself, and itself with a run of half of r cells wrong.
+/// One block in a coder's order of cells: its message, itself, itself with a run of half of r cells wrong, and with as many cells anywhere.
 struct Block {
     message: Vec<u8>,
     clean: Vec<u8>,
     damaged: Vec<u8>,
+    spots: Vec<u8>,
 }
 
 impl Block {
@@ -37,10 +41,13 @@ impl Block {
         for cell in &mut damaged[start..start + shape.half()] {
             *cell ^= random.nonzero();
         }
+        let mut spots = clean.clone();
+        random.change(&mut spots, shape.half());
         Block {
             message,
             clean,
             damaged,
+            spots,
         }
     }
 }
@@ -50,7 +57,7 @@ struct Bench {
     coder: Box<dyn Coder>,
     blocks: Vec<Block>,
     out: Vec<u8>,
-    samples: [Vec<f64>; 3],
+    samples: [Vec<f64>; 5],
 }
 
 impl Bench {
@@ -62,7 +69,7 @@ impl Bench {
                 .collect(),
             coder,
             out: vec![0; shape.n],
-            samples: [vec![], vec![], vec![]],
+            samples: [const { vec![] }; 5],
         }
     }
 
@@ -82,16 +89,31 @@ impl Bench {
         samples[2].push(nanoseconds(blocks, |block| {
             assert_ne!(coder.correct(black_box(&block.damaged), black_box(out)), Some(false))
         }));
+        samples[3].push(nanoseconds(blocks, |block| {
+            assert_ne!(
+                coder.correct_spots(black_box(&block.clean), black_box(out)),
+                Some(false)
+            )
+        }));
+        samples[4].push(nanoseconds(blocks, |block| {
+            assert_ne!(
+                coder.correct_spots(black_box(&block.spots), black_box(out)),
+                Some(false)
+            )
+        }));
     }
 
     fn times(mut self) -> Times {
         let corrects = self.coder.correct(&self.blocks[0].damaged, &mut self.out).is_some();
-        let [write, check, correct] = self.samples.map(median);
+        let has_spots = self.coder.correct_spots(&self.blocks[0].spots, &mut self.out).is_some();
+        let [write, check, correct, spots_clean, spots] = self.samples.map(median);
         Times {
             name: self.coder.name(),
             write,
             check,
             correct: corrects.then_some(correct),
+            spots_clean: has_spots.then_some(spots_clean),
+            spots: has_spots.then_some(spots),
         }
     }
 }

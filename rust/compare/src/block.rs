@@ -2,7 +2,7 @@
 
 use crate::{numbers, outcome, profile, Answer};
 use second::random::Random;
-use second::{block, Profile, Run};
+use second::{block, spots, Profile, Run};
 use tishwabe::ffi;
 
 /// Writes a message into a buffer of `length` bytes with both.
@@ -54,4 +54,23 @@ pub fn correct(random: &mut Random, p: &Profile, read: &[u8], length: usize) -> 
         assert_eq!(out, due);
     }
     answer
+}
+
+/// Corrects a block in spot mode into a buffer of `length` bytes with both: the number of cells changed and the lowest of them are the
+/// values. The bytes of the buffer afterwards come too.
+pub fn correct_spots(random: &mut Random, p: &Profile, read: &[u8], length: usize) -> (Answer, Vec<u8>) {
+    let mut out = random.bytes(length);
+    let (mut due, before) = (out.clone(), out.clone());
+    let answer = outcome(spots::correct(p, read, &mut due), |changes| {
+        (changes.count, changes.lowest)
+    });
+    let found = ffi::correct_spots(numbers(p), read, &mut out);
+    assert_eq!((found, &out), ((answer.0, answer.2, answer.3), &due), "{p:?} {read:?}");
+    if let Some(made) = profile(p) {
+        out = before;
+        let result = made.correct_spots(read, &mut out);
+        assert_eq!(outcome(result, |changes| (changes.count, changes.lowest)), answer);
+        assert_eq!(out, due);
+    }
+    (answer, due)
 }

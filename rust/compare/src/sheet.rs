@@ -2,7 +2,7 @@
 
 use crate::{draw, numbers, outcome, profile, Answer};
 use second::random::Random;
-use second::{sheet, Profile};
+use second::{sheet, Mode, Profile};
 use tishwabe::ffi;
 
 /// Writes a payload into a buffer of `length` bytes with both.
@@ -23,18 +23,40 @@ pub fn write(random: &mut Random, p: &Profile, payload: &[u8], length: usize) ->
     (answer, cells)
 }
 
-/// Reads a sheet with both, with a scratch and a payload buffer of these lengths: the number of blocks changed is the first value.
+/// Reads a sheet with both in document 01's mode.
 pub fn read(random: &mut Random, p: &Profile, cells: &[u8], lengths: (usize, usize)) -> (Answer, Vec<u8>) {
+    read_in(Mode::Burst, random, p, cells, lengths)
+}
+
+/// The library's mode of the same name.
+fn library_mode(mode: Mode) -> tishwabe::Mode {
+    match mode {
+        Mode::Burst => tishwabe::Mode::Burst,
+        Mode::Spots => tishwabe::Mode::Spots,
+    }
+}
+
+/// Reads a sheet with both, with a scratch and a payload buffer of these lengths: the number of blocks changed is the first value. The bytes of
+/// the payload buffer afterwards come too.
+pub fn read_in(
+    mode: Mode,
+    random: &mut Random,
+    p: &Profile,
+    cells: &[u8],
+    lengths: (usize, usize),
+) -> (Answer, Vec<u8>) {
     let (mut scratch, mut payload) = (random.bytes(lengths.0), random.bytes(lengths.1));
     let before = (scratch.clone(), payload.clone());
     let mut due = before.clone();
-    let answer = outcome(sheet::read(p, cells, &mut due.0, &mut due.1), |changed| (changed, 0));
-    let found = ffi::read_sheet(numbers(p), cells, &mut scratch, &mut payload);
+    let answer = outcome(sheet::read_in(mode, p, cells, &mut due.0, &mut due.1), |changed| {
+        (changed, 0)
+    });
+    let found = ffi::read_sheet(library_mode(mode), numbers(p), cells, &mut scratch, &mut payload);
     assert_eq!(found, (answer.0, answer.2, answer.1), "{p:?} {cells:?}");
     assert_eq!((&scratch, &payload), (&due.0, &due.1), "{p:?} {cells:?}");
     if let Some(made) = profile(p) {
         (scratch, payload) = before;
-        let result = made.read_sheet(cells, &mut scratch, &mut payload);
+        let result = made.read_sheet_in(library_mode(mode), cells, &mut scratch, &mut payload);
         assert_eq!(outcome(result, |changed| (changed, 0)), answer);
         assert_eq!((scratch, payload), due);
     }
@@ -53,13 +75,24 @@ pub fn scratched(random: &mut Random, p: &Profile, payload: &[u8], least: usize,
 
 /// The sheet of a payload, written with both, and each block changed in its own way or left.
 pub fn damaged(random: &mut Random, p: &Profile, payload: &[u8]) -> Vec<u8> {
+    each_block(random, p, payload, |random, block| {
+        let damage = draw::DAMAGES[[0, 0, 0, 0, 1, 1, 3, 4][random.between(0, 7)]];
+        draw::damaged(random, p, &block, damage)
+    })
+}
+
+/// The sheet of a payload, written with both, and each block then changed by what is given.
+pub fn each_block(
+    random: &mut Random,
+    p: &Profile,
+    payload: &[u8],
+    changed: impl Fn(&mut Random, Vec<u8>) -> Vec<u8>,
+) -> Vec<u8> {
     let (answer, mut cells) = write(random, p, payload, p.depth * p.n);
     assert_eq!(answer.0, 0);
     for d in 0..p.depth {
-        let block: Vec<u8> = cells.iter().skip(d).step_by(p.depth).copied().collect();
-        let damage = draw::DAMAGES[[0, 0, 0, 0, 1, 1, 3, 4][random.between(0, 7)]];
-        let changed = draw::damaged(random, p, &block, damage);
-        for (i, cell) in changed.into_iter().enumerate() {
+        let block = cells.iter().skip(d).step_by(p.depth).copied().collect();
+        for (i, cell) in changed(random, block).into_iter().enumerate() {
             cells[i * p.depth + d] = cell;
         }
     }

@@ -32,7 +32,7 @@ impl Tally {
     }
 }
 
-/// Document 01's word for a number.
+/// The documents' word for a number.
 pub fn called(number: usize) -> &'static str {
     [
         "accepted",
@@ -46,6 +46,7 @@ pub fn called(number: usize) -> &'static str {
         "plot order",
         "no such plot",
         "full",
+        "spotted",
     ][number]
 }
 

@@ -1,10 +1,10 @@
 //! Sheets, written and read by the library and by the second decoder.
 
 use compare::draw::{self, Size};
-use compare::sheet::{damaged, read, scratched, write};
+use compare::sheet::{damaged, read, read_in, scratched, write};
 use compare::work::{called, run, Tally};
 use second::random::Random;
-use second::{cases, Profile};
+use second::{cases, Mode, Profile};
 
 const SIZE: Size = Size { n: 30, r: 10 };
 
@@ -63,7 +63,9 @@ fn profiles_and_lengths_are_refused() {
         let bytes = random.bytes(length);
         let lengths = (random.between(0, 60), random.between(0, 60));
         assert_eq!(write(random, p, &bytes, lengths.0).0, (1, 0, 0, 0));
-        assert_eq!(read(random, p, &bytes, lengths).0, (1, 0, 0, 0));
+        for mode in Mode::ALL {
+            assert_eq!(read_in(mode, random, p, &bytes, lengths).0, (1, 0, 0, 0));
+        }
     };
     run("refused sheets", 1_000, |_, random, tally| {
         let p = draw::profile_out_of_range(random);
@@ -75,7 +77,10 @@ fn profiles_and_lengths_are_refused() {
         for mask in 1..8 {
             let length = |i: usize| if mask >> i & 1 == 1 { wrong[i] } else { due[i] };
             let cells = random.bytes(length(0));
-            assert_eq!(read(random, &p, &cells, (length(1), length(2))).0, (2, 0, 0, 0));
+            for mode in Mode::ALL {
+                let answer = read_in(mode, random, &p, &cells, (length(1), length(2))).0;
+                assert_eq!(answer, (2, 0, 0, 0));
+            }
             if mask & 2 == 0 {
                 let payload = random.bytes(length(2));
                 assert_eq!(write(random, &p, &payload, length(0)).0, (2, 0, 0, 0));

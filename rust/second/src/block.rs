@@ -50,7 +50,7 @@ impl Profile {
     }
 
     /// What a 1 in this cell adds to the r syndromes.
-    fn column(&self, cell: usize) -> Vec<u8> {
+    pub(crate) fn column(&self, cell: usize) -> Vec<u8> {
         (0..self.r).map(|i| power((self.b + i) * cell)).collect()
     }
 }

@@ -1,4 +1,4 @@
-//! Examples with answers found by hand: document 01's bench sheet, and tables of refusals with their places.
+//! Examples with answers found by hand: document 01's bench sheet, a table for spot mode, and tables of refusals with their places.
 //! The unit tests hold the library to them, and the test vectors include their inputs.
 
 use crate::block::Profile;
@@ -31,6 +31,44 @@ pub fn corrections() -> Vec<Correction> {
         ([9, 14, 7, 0], 3, Err(1)),
     ];
     let row = |(read, limit, expected)| Correction {
+        profile: Profile::from([4, 3, 0, limit, 1]),
+        read,
+        expected,
+    };
+    rows.map(row).into()
+}
+
+/// A block read in spot mode.
+pub struct SpotCorrection {
+    pub profile: Profile,
+    pub read: [u8; 4],
+    /// The codeword, the number of cells changed and the lowest of them, or the refusal's number.
+    pub expected: Result<([u8; 4], usize, usize), u8>,
+}
+
+/// Document 01's read blocks and others in spot mode, for n=4, r=3, b=0: h is 1 and two codewords differ in all four cells, so a block
+/// is within one cell of a multiple of 8 14 7 1 or is refused. Twice it is 16 28 14 2.
+pub fn spot_corrections() -> Vec<SpotCorrection> {
+    let codeword = [8, 14, 7, 1];
+    let rows = [
+        (codeword, 0, Ok((codeword, 0, 0))),
+        ([9, 14, 7, 1], 0, Ok((codeword, 1, 0))),
+        ([9, 14, 7, 1], 2, Ok((codeword, 1, 0))),
+        ([8, 0, 7, 1], 1, Ok((codeword, 1, 1))),
+        ([8, 14, 255, 1], 0, Ok((codeword, 1, 2))),
+        ([8, 14, 7, 0], 2, Ok((codeword, 1, 3))),
+        ([16, 28, 14, 1], 0, Ok(([16, 28, 14, 2], 1, 3))),
+        ([0, 0, 9, 0], 0, Ok(([0; 4], 1, 2))),
+        ([9, 15, 7, 1], 2, Err(11)),
+        ([8, 15, 6, 1], 2, Err(11)),
+        ([8, 14, 0, 0], 1, Err(11)),
+        ([8, 14, 0, 0], 2, Err(11)),
+        ([9, 14, 7, 0], 2, Err(11)),
+        ([8, 14, 14, 2], 2, Err(11)),
+        (codeword, 3, Err(1)),
+        ([9, 14, 7, 0], 3, Err(1)),
+    ];
+    let row = |(read, limit, expected)| SpotCorrection {
         profile: Profile::from([4, 3, 0, limit, 1]),
         read,
         expected,

@@ -1,5 +1,5 @@
-//! The second decoder: a reference implementation of document 01 by brute force.
-//! It is written from that document's words alone and shares neither code nor method with the proved
+//! The second decoder: a reference implementation of document 01 by brute force, and of document 02's requests by linear algebra.
+//! It is written from these documents' words alone and shares neither code nor method with the proved
 //! library, so that a difference between the two points at a mistake in one of them.
 
 pub mod block;
@@ -8,10 +8,14 @@ pub mod generator;
 pub mod gf;
 pub mod linear;
 pub mod lister;
+pub mod mode;
 pub mod plot;
 pub mod random;
 pub mod refusal;
 pub mod sheet;
+pub mod spots;
 
 pub use block::{Profile, Run};
+pub use mode::Mode;
 pub use refusal::Refusal;
+pub use spots::Changes;

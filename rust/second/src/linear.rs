@@ -36,8 +36,8 @@ impl Elimination {
         }
     }
 
-    /// Gives the next column of A.
-    pub fn add_column(&mut self, column: &[u8]) {
+    /// Gives the next column of A. If it depends on those before it: the factors with which all given columns add up to zero, its own being 1.
+    pub fn add_column(&mut self, column: &[u8]) -> Option<Vec<u8>> {
         assert_eq!(column.len(), self.rows);
         let mut vector = column.to_vec();
         vector.resize(self.target.len(), 0);
@@ -47,7 +47,7 @@ impl Elimination {
             clear(*row, pivot, &mut vector);
         }
         let Some(row) = vector[..self.rows].iter().position(|&x| x != 0) else {
-            return;
+            return Some(vector[self.rows..self.rows + self.given].to_vec());
         };
         let factor = inverse(vector[row]).expect("a pivot is not zero");
         for x in &mut vector {
@@ -55,6 +55,7 @@ impl Elimination {
         }
         clear(row, &vector, &mut self.target);
         self.pivots.push((row, vector));
+        None
     }
 
     /// The solutions with the columns given so far.
@@ -68,6 +69,13 @@ impl Elimination {
             Solutions::One(combination[..self.given].to_vec())
         }
     }
+}
+
+/// Factors, the last of them 1, with which the first so many columns add up to zero; none if the columns are independent.
+pub fn dependence(columns: &[Vec<u8>]) -> Option<Vec<u8>> {
+    let rows = columns.first().map_or(0, Vec::len);
+    let mut system = Elimination::new(&vec![0; rows], columns.len());
+    columns.iter().find_map(|column| system.add_column(column))
 }
 
 /// Adds the multiple of the pivot column that makes the vector's entry in this row zero.
@@ -122,6 +130,22 @@ mod tests {
             };
             assert_eq!(solve(&columns, &target), expected);
         }
+    }
+
+    /// Columns drawn from a space of fewer dimensions than there are columns, and independent ones.
+    #[test]
+    fn a_dependence_adds_up_to_zero() {
+        let mut random = Random::new(13);
+        for rank in 1..12 {
+            let base: Vec<Vec<u8>> = (0..rank).map(|_| random.bytes(rank + 3)).collect();
+            assert_eq!(dependence(&base), None);
+            let drawn: Vec<Vec<u8>> = (0..=rank).map(|_| apply(&base, &random.bytes(rank))).collect();
+            let factors = dependence(&drawn).expect("one column more than the dimension");
+            assert_eq!(factors.last(), Some(&1));
+            assert_eq!(apply(&drawn[..factors.len()], &factors), vec![0; rank + 3]);
+        }
+        assert_eq!(dependence(&[vec![0, 0]]), Some(vec![1]));
+        assert_eq!(dependence(&[vec![3, 5], vec![6, 10]]), Some(vec![2, 1]));
     }
 
     #[test]

@@ -33,4 +33,19 @@ impl Random {
     pub fn bytes(&mut self, length: usize) -> Vec<u8> {
         (0..length).map(|_| self.byte()).collect()
     }
+
+    /// So many numbers below `end`, each another one.
+    pub fn distinct(&mut self, end: usize, count: usize) -> Vec<usize> {
+        let mut left: Vec<usize> = (0..end).collect();
+        (0..count)
+            .map(|_| left.swap_remove(self.between(0, left.len() - 1)))
+            .collect()
+    }
+
+    /// Changes exactly so many cells, each another one.
+    pub fn change(&mut self, cells: &mut [u8], count: usize) {
+        for cell in self.distinct(cells.len(), count) {
+            cells[cell] ^= self.nonzero();
+        }
+    }
 }

@@ -1,4 +1,4 @@
-//! Refusals: document 01's numbers 1 to 10, each with one place.
+//! Refusals: document 01's numbers 1 to 10 and document 02's from 11 on, each with one place.
 //! One struct serves blocks, sheets, payloads and the lister.
 
 /// Document 01: "misprint".
@@ -21,6 +21,8 @@ pub const PLOT_ORDER: u8 = 8;
 pub const NO_SUCH_PLOT: u8 = 9;
 /// Document 01: "full".
 pub const NO_SPACE: u8 = 10;
+/// Document 02, Note 1: "spotted".
+pub const NO_CODEWORD_NEAR: u8 = 11;
 
 /// A refusal's number and place.
 #[derive(Clone, Copy, Debug, PartialEq, Eq)]

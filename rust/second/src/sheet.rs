@@ -2,6 +2,7 @@
 //! Sheet cell p is cell p/D of block p mod D; payload byte q is message byte q mod k of block q/k.
 
 use crate::block::{self, check_lengths, Profile};
+use crate::mode::Mode;
 use crate::refusal::Refusal;
 
 /// The cells of one block of a sheet.
@@ -26,8 +27,19 @@ pub fn write(profile: &Profile, payload: &[u8], sheet: &mut [u8]) -> Result<(), 
     Ok(())
 }
 
-/// The sheet reader; the result is the number of blocks changed.
+/// The sheet reader of document 01.
 pub fn read(profile: &Profile, sheet: &[u8], scratch: &mut [u8], payload: &mut [u8]) -> Result<usize, Refusal> {
+    read_in(Mode::Burst, profile, sheet, scratch, payload)
+}
+
+/// The sheet reader in this mode; the result is the number of blocks changed.
+pub fn read_in(
+    mode: Mode,
+    profile: &Profile,
+    sheet: &[u8],
+    scratch: &mut [u8],
+    payload: &mut [u8],
+) -> Result<usize, Refusal> {
     profile.check()?;
     let Profile { n, depth, .. } = *profile;
     check_lengths(&[
@@ -35,7 +47,7 @@ pub fn read(profile: &Profile, sheet: &[u8], scratch: &mut [u8], payload: &mut [
         (scratch.len(), depth * n),
         (payload.len(), depth * profile.k()),
     ])?;
-    let result = correct_blocks(profile, sheet, scratch);
+    let result = correct_blocks(mode, profile, sheet, scratch);
     if result.is_ok() {
         for (q, byte) in payload.iter_mut().enumerate() {
             *byte = scratch[q / profile.k() * n + profile.r + q % profile.k()];
@@ -46,7 +58,7 @@ pub fn read(profile: &Profile, sheet: &[u8], scratch: &mut [u8], payload: &mut [
 }
 
 /// Corrects the blocks in turn, block t into cells t×n and on of the scratch; ends at the lowest refused.
-fn correct_blocks(profile: &Profile, sheet: &[u8], scratch: &mut [u8]) -> Result<usize, Refusal> {
+fn correct_blocks(mode: Mode, profile: &Profile, sheet: &[u8], scratch: &mut [u8]) -> Result<usize, Refusal> {
     let mut changed = 0;
     for (number, codeword) in scratch.chunks_mut(profile.n).enumerate() {
         let cells = block_of(profile, sheet, number);
@@ -54,7 +66,7 @@ fn correct_blocks(profile: &Profile, sheet: &[u8], scratch: &mut [u8]) -> Result
             place: number,
             ..refusal
         };
-        block::correct(profile, &cells, codeword).map_err(in_block)?;
+        mode.correct(profile, &cells, codeword).map_err(in_block)?;
         changed += usize::from(cells != codeword);
     }
     Ok(changed)
@@ -65,7 +77,7 @@ mod tests {
     use super::*;
     use crate::cases;
     use crate::random::Random;
-    use crate::refusal::{refuse, AMBIGUOUS, BUFFER_LENGTH, NO_CODEWORD, PROFILE_RANGE};
+    use crate::refusal::{refuse, AMBIGUOUS, BUFFER_LENGTH, NO_CODEWORD, NO_CODEWORD_NEAR, PROFILE_RANGE};
 
     #[test]
     fn document_01_written_sheet() {
@@ -109,7 +121,31 @@ mod tests {
         }
     }
 
-    /// Blocks 8 14 7 1 (clean), 8 14 0 0 (tied with 2), 9 14 7 0 (torn with 2) of document 01.
+    /// Up to h cells of each block changed, wherever they lie and whatever L is.
+    #[test]
+    fn written_sheets_come_back_in_spot_mode() {
+        let mut random = Random::new(32);
+        for _ in 0..120 {
+            let (mut profile, payload, written) = random_sheet(&mut random);
+            profile.limit = random.between(0, profile.r - 1);
+            let mut sheet = written.clone();
+            for t in 0..profile.depth {
+                for _ in 0..random.between(0, profile.h()) {
+                    sheet[random.between(0, profile.n - 1) * profile.depth + t] = random.byte();
+                }
+            }
+            let changed = (0..profile.depth)
+                .filter(|&t| block_of(&profile, &sheet, t) != block_of(&profile, &written, t))
+                .count();
+            let mut scratch = random.bytes(sheet.len());
+            let mut found = random.bytes(payload.len());
+            let result = read_in(Mode::Spots, &profile, &sheet, &mut scratch, &mut found);
+            assert_eq!((result, &found), (Ok(changed), &payload));
+            assert!(scratch.iter().all(|&x| x == 0));
+        }
+    }
+
+    /// Blocks 8 14 7 1 (clean), 8 14 0 0 (tied with 2), 9 14 7 0 (torn with 2) of document 01; both of the latter are spotted in spot mode.
     #[test]
     fn the_lowest_refused_block_is_named() {
         let [clean, ambiguous, unreachable] = [[8, 14, 7, 1], [8, 14, 0, 0], [9, 14, 7, 0]];
@@ -122,10 +158,12 @@ mod tests {
         for (blocks, number, place) in table {
             let profile = Profile::from([4, 3, 0, 2, 3]);
             let sheet: Vec<u8> = (0..12).map(|p| blocks[p % 3][p / 3]).collect();
-            let (mut scratch, mut payload) = ([170; 12], [170; 3]);
-            let result = read(&profile, &sheet, &mut scratch, &mut payload);
-            assert_eq!(result, refuse(number, place));
-            assert_eq!((scratch, payload), ([0; 12], [170; 3]));
+            for (mode, number) in [(Mode::Burst, number), (Mode::Spots, NO_CODEWORD_NEAR)] {
+                let (mut scratch, mut payload) = ([170; 12], [170; 3]);
+                let result = read_in(mode, &profile, &sheet, &mut scratch, &mut payload);
+                assert_eq!(result, refuse(number, place));
+                assert_eq!((scratch, payload), ([0; 12], [170; 3]));
+            }
         }
     }
 
@@ -134,17 +172,19 @@ mod tests {
         for profile in cases::profiles_out_of_range() {
             let (mut sheet, mut scratch, mut payload) = ([170; 4], [170; 4], [170; 1]);
             assert_eq!(write(&profile, &[1, 2], &mut sheet), refuse(PROFILE_RANGE, 0));
-            assert_eq!(
-                read(&profile, &sheet, &mut scratch, &mut payload),
-                refuse(PROFILE_RANGE, 0)
-            );
+            for mode in Mode::ALL {
+                let result = read_in(mode, &profile, &sheet, &mut scratch, &mut payload);
+                assert_eq!(result, refuse(PROFILE_RANGE, 0));
+            }
             assert_eq!((sheet, scratch, payload), ([170; 4], [170; 4], [170; 1]));
         }
         let profile = Profile::from([4, 3, 0, 2, 2]);
         for [a, b, c] in cases::WRONG_LENGTHS {
             let (mut sheet, mut scratch, mut payload) = (vec![170; a], vec![170; b], vec![170; c]);
-            let result = read(&profile, &sheet, &mut scratch, &mut payload);
-            assert_eq!(result, refuse(BUFFER_LENGTH, 0));
+            for mode in Mode::ALL {
+                let result = read_in(mode, &profile, &sheet, &mut scratch, &mut payload);
+                assert_eq!(result, refuse(BUFFER_LENGTH, 0));
+            }
             if (a, c) != (8, 2) {
                 assert_eq!(write(&profile, &payload, &mut sheet), refuse(BUFFER_LENGTH, 0));
             }

@@ -1,5 +1,5 @@
-//! Makes the sheets of examples/cruise: a cruise of a dozen plots, the same sheet scratched within the promise, one with a torn block and
-//! one with a tied block. Each file is an input of the plot lister: the profile's five bytes, then the sheet.
+//! Makes the sheets of examples/cruise: a cruise of a dozen plots, the same sheet scratched within the promise, one with a torn block,
+//! one with a tied block, and one with mould. Each file is an input of the plot lister: the profile's five bytes, then the sheet.
 //!
 //! `cargo run --offline --example cruise -- FOLDER` writes them.
 
@@ -37,7 +37,19 @@ fn cell(i: usize, d: usize) -> usize {
     i * DEPTH + d
 }
 
-fn sheets() -> Result<[(&'static str, Vec<u8>); 4], Error> {
+// h spots in every block, each in a cell of its own tenth of the block: far from any run of L cells.
+fn with_mould(written: &[u8], h: usize) -> Vec<u8> {
+    let mut sheet = written.to_vec();
+    for d in 0..DEPTH {
+        for spot in 0..h {
+            let i = spot * (N / h) + (d + spot) % (N / h);
+            sheet[cell(i, d)] ^= (1 + 23 * spot + 7 * d) as u8;
+        }
+    }
+    sheet
+}
+
+fn sheets() -> Result<[(&'static str, Vec<u8>); 5], Error> {
     let profile = Profile::new(N, R, B, LIMIT, DEPTH)?;
     let mut written = vec![0; profile.sheet_length()];
     profile.write_sheet(&payload(&profile)?, &mut written)?;
@@ -62,6 +74,7 @@ fn sheets() -> Result<[(&'static str, Vec<u8>); 4], Error> {
         ambiguous[cell(i, 5)] ^= value;
     }
     Ok([
+        ("mould", with_mould(&written, profile.h())),
         ("written", written),
         ("scratched", scratched),
         ("torn", uncorrectable),

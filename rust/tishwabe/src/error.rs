@@ -1,13 +1,15 @@
-//! The ten refusals of document 01, with their numbers and places.
+//! The refusals of documents 01 and 02, with their numbers and places.
 
 use std::fmt;
 
-/// Why an entry refused. `Display` gives document 01's word for it, its number and its place.
+/// Why an entry refused. `Display` gives the documents' word for it, its number and its place; for 11 it says what is meant.
 ///
 /// ```
 /// use tishwabe::Error;
 /// assert_eq!(Error::BadMark { place: 8 }.to_string(), "bad mark (refusal 5, place 8)");
 /// assert_eq!(Error::Uncorrectable { block: 2 }.to_string(), "torn (refusal 3, place 2)");
+/// let spotted = Error::TooManyErrors { block: 2 }.to_string();
+/// assert_eq!(spotted, "spotted: no codeword differs in at most h cells (refusal 11, place 2)");
 /// ```
 #[derive(Clone, Copy, Debug, PartialEq, Eq, Hash)]
 pub enum Error {
@@ -52,10 +54,15 @@ pub enum Error {
         /// The byte of the payload.
         place: usize,
     },
+    /// 11, "spotted", in spot mode only: no codeword differs in at most h cells. The block is 0 for a lone block.
+    TooManyErrors {
+        /// The number of the block.
+        block: usize,
+    },
 }
 
 impl Error {
-    /// Document 01's number, 1 to 10.
+    /// Its number, 1 to 10 in document 01, 11 in document 02.
     pub fn number(self) -> u8 {
         match self {
             Error::BadProfile => 1,
@@ -68,6 +75,7 @@ impl Error {
             Error::PlotOrder { .. } => 8,
             Error::NoSuchPlot => 9,
             Error::Full { .. } => 10,
+            Error::TooManyErrors { .. } => 11,
         }
     }
 
@@ -75,7 +83,7 @@ impl Error {
     pub fn place(self) -> usize {
         match self {
             Error::BadProfile | Error::WrongLength | Error::NoSuchPlot => 0,
-            Error::Uncorrectable { block } | Error::Ambiguous { block } => block,
+            Error::Uncorrectable { block } | Error::Ambiguous { block } | Error::TooManyErrors { block } => block,
             Error::BadMark { place }
             | Error::CutShort { place }
             | Error::BadTally { place }
@@ -84,7 +92,7 @@ impl Error {
         }
     }
 
-    /// Document 01's word for it.
+    /// The documents' word for it.
     pub fn called(self) -> &'static str {
         match self {
             Error::BadProfile => "misprint",
@@ -97,25 +105,25 @@ impl Error {
             Error::PlotOrder { .. } => "plot order",
             Error::NoSuchPlot => "no such plot",
             Error::Full { .. } => "full",
+            Error::TooManyErrors { .. } => "spotted",
         }
     }
 }
 
 impl fmt::Display for Error {
     fn fmt(&self, f: &mut fmt::Formatter<'_>) -> fmt::Result {
-        write!(
-            f,
-            "{} (refusal {}, place {})",
-            self.called(),
-            self.number(),
-            self.place()
-        )
+        let meant = match self {
+            Error::TooManyErrors { .. } => ": no codeword differs in at most h cells",
+            _ => "",
+        };
+        let (word, number, place) = (self.called(), self.number(), self.place());
+        write!(f, "{word}{meant} (refusal {number}, place {place})")
     }
 }
 
 impl std::error::Error for Error {}
 
-/// The value, unless the number is a refusal's. The library answers no number above 10.
+/// The value, unless the number is a refusal's. The library answers no number above 11.
 pub(crate) fn accepted<T>(number: usize, place: usize, value: T) -> Result<T, Error> {
     Err(match number {
         0 => return Ok(value),
@@ -128,6 +136,7 @@ pub(crate) fn accepted<T>(number: usize, place: usize, value: T) -> Result<T, Er
         7 => Error::BadTally { place },
         8 => Error::PlotOrder { place },
         9 => Error::NoSuchPlot,
-        _ => Error::Full { place },
+        10 => Error::Full { place },
+        _ => Error::TooManyErrors { block: place },
     })
 }

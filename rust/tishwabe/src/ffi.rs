@@ -2,6 +2,8 @@
 //! Nothing else in this crate is `unsafe`. A slice goes as its pointer and its length, a number comes back through a reference; the
 //! functions of the library accept every argument of these types, and keep no pointer after they return.
 
+use crate::profile::Mode;
+
 /// n, r, b, L and D of document 01, in any range.
 pub type Numbers = [usize; 5];
 
@@ -50,6 +52,19 @@ mod library {
             start: &mut usize,
             length: &mut usize,
         ) -> usize;
+        pub fn tishwabe_correct_spots(
+            n: usize,
+            r: usize,
+            b: usize,
+            limit: usize,
+            depth: usize,
+            read: *const u8,
+            read_length: usize,
+            out: *mut u8,
+            out_length: usize,
+            count: &mut usize,
+            lowest: &mut usize,
+        ) -> usize;
         pub fn tishwabe_write_sheet(
             n: usize,
             r: usize,
@@ -62,6 +77,21 @@ mod library {
             sheet_length: usize,
         ) -> usize;
         pub fn tishwabe_read_sheet(
+            n: usize,
+            r: usize,
+            b: usize,
+            limit: usize,
+            depth: usize,
+            sheet: *const u8,
+            sheet_length: usize,
+            scratch: *mut u8,
+            scratch_length: usize,
+            payload: *mut u8,
+            payload_length: usize,
+            changed: &mut usize,
+            place: &mut usize,
+        ) -> usize;
+        pub fn tishwabe_read_sheet_spots(
             n: usize,
             r: usize,
             b: usize,
@@ -146,6 +176,28 @@ pub fn correct_block([n, r, b, limit, depth]: Numbers, read: &[u8], out: &mut [u
     (number, start, length)
 }
 
+/// The refusal's number, or 0; then the number of cells changed, and the lowest of them.
+pub fn correct_spots([n, r, b, limit, depth]: Numbers, read: &[u8], out: &mut [u8]) -> (usize, usize, usize) {
+    let (mut count, mut lowest) = (0, 0);
+    let (from, to) = (read.as_ptr(), out.as_mut_ptr());
+    let number = unsafe {
+        library::tishwabe_correct_spots(
+            n,
+            r,
+            b,
+            limit,
+            depth,
+            from,
+            read.len(),
+            to,
+            out.len(),
+            &mut count,
+            &mut lowest,
+        )
+    };
+    (number, count, lowest)
+}
+
 /// The refusal's number, or 0.
 pub fn write_sheet([n, r, b, limit, depth]: Numbers, payload: &[u8], sheet: &mut [u8]) -> usize {
     let (from, to) = (payload.as_ptr(), sheet.as_mut_ptr());
@@ -154,14 +206,19 @@ pub fn write_sheet([n, r, b, limit, depth]: Numbers, payload: &[u8], sheet: &mut
 
 /// The refusal's number, or 0; then the number of blocks changed, and the refusal's place.
 pub fn read_sheet(
+    mode: Mode,
     [n, r, b, limit, depth]: Numbers,
     sheet: &[u8],
     scratch: &mut [u8],
     payload: &mut [u8],
 ) -> (usize, usize, usize) {
+    let reader = match mode {
+        Mode::Burst => library::tishwabe_read_sheet,
+        Mode::Spots => library::tishwabe_read_sheet_spots,
+    };
     let (mut changed, mut place) = (0, 0);
     let number = unsafe {
-        library::tishwabe_read_sheet(
+        reader(
             n,
             r,
             b,

@@ -1,8 +1,9 @@
 //! Film sheets for plot tallies: blocks and sheets written, checked and corrected, and the plot records inside.
 //!
 //! Every function is total: it answers each input of its types, and never panics. The work is done by a library whose functions
-//! are proved to meet document 01, "Film sheets for plot tallies, and their mending"; this crate gives them Rust's types. A refusal
-//! is an [`Error`] with document 01's number and place, and leaves every lent buffer as it was but the sheet reader's scratch.
+//! are proved to meet document 01, "Film sheets for plot tallies, and their mending", and document 02, "Later changes to the base"; this crate
+//! gives them Rust's types. A refusal is an [`Error`] with the documents' number and place, and leaves every lent buffer as it was but the
+//! sheet reader's scratch.
 //!
 //! ```
 //! use tishwabe::{add, ask, Error, Profile};
@@ -22,6 +23,8 @@
 //! assert_eq!(ask(&found, 7), Ok(&[0x50, 0x4C, 7, 0, 1, 3, 32, 2][..]));
 //! # Ok::<(), Error>(())
 //! ```
+//!
+//! Damp film gets spots and no scratches: [`Profile::read_sheet_in`] with [`Mode::Spots`] corrects any h cells of each block, wherever they lie.
 #![deny(unsafe_code)]
 #![deny(missing_docs)]
 
@@ -34,4 +37,4 @@ mod profile;
 
 pub use error::Error;
 pub use plot::{add, ask, check_payload, list, list_input, list_refusal, locate};
-pub use profile::{Profile, Run};
+pub use profile::{Changes, Mode, Profile, Run};

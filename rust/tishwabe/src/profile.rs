@@ -20,6 +20,25 @@ pub struct Run {
     pub length: usize,
 }
 
+/// The cells changed in a block that was corrected in spot mode: how many, and the lowest of them. 0 and 0 for a clean block; where cell 0 is changed
+/// the count tells.
+#[derive(Clone, Copy, Debug, PartialEq, Eq, Hash)]
+pub struct Changes {
+    /// The number of cells changed, at most h.
+    pub count: usize,
+    /// The lowest cell changed.
+    pub lowest: usize,
+}
+
+/// How a sheet is read: which codeword a block goes to.
+#[derive(Clone, Copy, Debug, PartialEq, Eq, Hash)]
+pub enum Mode {
+    /// Scratches, document 01: the codeword within the shortest run of up to L cells. Refusals 3 and 4.
+    Burst,
+    /// Spots, document 02: the codeword that differs in the fewest cells, up to h anywhere; L has no effect. Refusal 11.
+    Spots,
+}
+
 impl Profile {
     /// A profile of `n` cells in a block, `r` check cells, starting power `b`, longest run `limit` that may be corrected, and
     /// `depth` blocks in a sheet.
@@ -68,7 +87,8 @@ impl Profile {
         self.k
     }
 
-    /// r/2 rounded down. If L is at least h, any scratch of at most D × h cells of a sheet is corrected.
+    /// r/2 rounded down. If L is at least h, any scratch of at most D × h cells of a sheet is corrected; in spot mode, whatever L is, any h
+    /// cells of each block.
     pub fn h(&self) -> usize {
         self.h
     }
@@ -131,6 +151,23 @@ impl Profile {
         accepted(number, 0, Run { start, length })
     }
 
+    /// Corrects a block in spot mode: n cells read, and the one codeword that differs in at most h cells, wherever they lie, written to the n
+    /// bytes of `out`. L has no effect. A refusal leaves `out` as it was.
+    ///
+    /// ```
+    /// use tishwabe::{Changes, Error, Profile};
+    /// let profile = Profile::new(4, 3, 0, 0, 1)?;
+    /// let mut out = [0; 4];
+    /// assert_eq!(profile.correct_spots(&[8, 14, 7, 9], &mut out), Ok(Changes { count: 1, lowest: 3 }));
+    /// assert_eq!(out, [8, 14, 7, 1]);
+    /// assert_eq!(profile.correct_spots(&[8, 15, 7, 9], &mut out), Err(Error::TooManyErrors { block: 0 }));
+    /// # Ok::<(), Error>(())
+    /// ```
+    pub fn correct_spots(&self, read: &[u8], out: &mut [u8]) -> Result<Changes, Error> {
+        let (number, count, lowest) = ffi::correct_spots(self.numbers, read, out);
+        accepted(number, 0, Changes { count, lowest })
+    }
+
     /// Writes a payload of D × k bytes as a sheet of D × n cells. A refusal leaves `sheet` as it was.
     ///
     /// ```
@@ -159,7 +196,35 @@ impl Profile {
     /// # Ok::<(), Error>(())
     /// ```
     pub fn read_sheet(&self, sheet: &[u8], scratch: &mut [u8], payload: &mut [u8]) -> Result<usize, Error> {
-        let (number, changed, place) = ffi::read_sheet(self.numbers, sheet, scratch, payload);
+        self.read_sheet_in(Mode::Burst, sheet, scratch, payload)
+    }
+
+    /// Reads a sheet in the mode named; all else as in [`Profile::read_sheet`], which is this in [`Mode::Burst`].
+    ///
+    /// ```
+    /// use tishwabe::{Error, Mode, Profile};
+    /// let profile = Profile::new(12, 4, 1, 3, 1)?;
+    /// let payload = [1, 2, 3, 4, 5, 6, 7, 8];
+    /// let mut sheet = [0; 12];
+    /// profile.write_sheet(&payload, &mut sheet)?;
+    /// sheet[0] ^= 9;
+    /// sheet[11] ^= 9;
+    /// let (mut scratch, mut found) = ([0; 12], [0; 8]);
+    /// // two cells far apart are no run of three, but they are h spots
+    /// let torn = Err(Error::Uncorrectable { block: 0 });
+    /// assert_eq!(profile.read_sheet(&sheet, &mut scratch, &mut found), torn);
+    /// assert_eq!(profile.read_sheet_in(Mode::Spots, &sheet, &mut scratch, &mut found), Ok(1));
+    /// assert_eq!(found, payload);
+    /// # Ok::<(), Error>(())
+    /// ```
+    pub fn read_sheet_in(
+        &self,
+        mode: Mode,
+        sheet: &[u8],
+        scratch: &mut [u8],
+        payload: &mut [u8],
+    ) -> Result<usize, Error> {
+        let (number, changed, place) = ffi::read_sheet(mode, self.numbers, sheet, scratch, payload);
         accepted(number, place, changed)
     }
 }

@@ -1,9 +1,8 @@
 -- The corrector's answer and cells, at the profile of the five numbers, with the three numbers of the answer.
-use mathlib.Core.Path.{ap, _∙_}
 use Rattle.profile.specs.declared.Profile.{Profile}
 use Rattle.block.specs.Block.{correctAnswer, correctLeaves}
-use Rattle.block.specs.Numbers.{verdictNumber, verdictStart, verdictLength}
-use Rattle.capi.proofs.Laws.{number-of}
+use Rattle.block.specs.Numbers.{verdictStart, verdictLength}
+use Rattle.capi.proofs.Laws.{corrector-of}
 use borrow.Author.Needs.{needs}
 use Rattle.capi.proofs.tishwabe_correct_block.Statement.{statement}
 use Rattle.capi.proofs.tishwabe_correct_block.Tie as tie
@@ -31,16 +30,8 @@ returns c =
     let g = c .before .before .before .before .before .before .before .before .before .before .args in
     let p = c .before .before .before .before .before .before .before .profile-of .ensures in
     let w = c .before .before .before .before .before .correct .ensures in
-    let a = w .0 ∙ ap (λ (q : Profile). correctAnswer q (g .read .now) (g .out .now)) p in (
-      number-of verdictNumber _ _ _ (c .number .ensures) a,
-      (
-        number-of verdictStart _ _ _ (c .before .before .start .ensures) a,
-        (
-          number-of verdictLength _ _ _ (c .before .length .ensures) a,
-          w .1 ∙ ap (λ (q : Profile). correctLeaves q (g .read .now) (g .out .now)) p,
-        ),
-      ),
-    )
+    corrector-of (λ (q : Profile). correctAnswer q (g .read .now) (g .out .now)) (λ (q : Profile). correctLeaves q (g .read .now) (g .out .now)) verdictStart verdictLength _ _ _ _ _ _ _ p
+    (w .0) (w .1) (c .number .ensures) (c .before .before .start .ensures) (c .before .length .ensures)
 
 pub tishwabe-correct-block-spec : {M : Type 1} → statement M
 tishwabe-correct-block-spec =

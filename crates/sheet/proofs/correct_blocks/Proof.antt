@@ -19,15 +19,15 @@ use Rattle.sheet.proofs.correct_blocks.Statement.{statement}
 use Rattle.sheet.proofs.correct_blocks.Tie as tie
 
 abbrev Inv-loop : tie.InvT-loop
-Inv-loop p sheet scratch₀ n blocks changed₀ d₀ scratch changed d =
+Inv-loop mode p sheet scratch₀ n blocks changed₀ d₀ scratch changed d =
     (d ≤ blocks)
     × (length scratch ≡ length scratch₀)
     × (changed ≤ d)
-    × (sheetAnswer p sheet ≡ answerFrom p sheet (p .depth - d) d changed)
-    × (scratch ≡ joined d n (codeword p sheet) ++ drop (d * n) scratch₀)
+    × (sheetAnswer mode p sheet ≡ answerFrom mode p sheet (p .depth - d) d changed)
+    × (scratch ≡ joined d n (codeword mode p sheet) ++ drop (d * n) scratch₀)
 
 abbrev μ-loop : tie.MeasureT-loop
-μ-loop p sheet scratch₀ n blocks changed₀ d₀ scratch changed d = blocks - d
+μ-loop mode p sheet scratch₀ n blocks changed₀ d₀ scratch changed d = blocks - d
 
 -- what was gathered: the blocks as they were read, one after the other
 module _ (g : tie.After-gather-blocks Inv-loop μ-loop) where
@@ -61,14 +61,14 @@ module _ (c : tie.In-loop Inv-loop μ-loop) where
 
   part-read : midOf at (at + n - at) (c .before .loop .scratch) ≡ readBlock (start .args .p) (start .args .sheet .now) (c .before .loop .d)
   part-read =
-      block-left (start .args .p .depth) n (c .before .loop .d) (codeword (start .args .p) (start .args .sheet .now)) (readBlock (start .args .p) (start .args .sheet .now)) _ _ (c .loop-test .taken)
+      block-left (start .args .p .depth) n (c .before .loop .d) (codeword (start .args .mode) (start .args .p) (start .args .sheet .now)) (readBlock (start .args .p) (start .args .sheet .now)) _ _ (c .loop-test .taken)
       (block-cells (start .args .p) (start .args .sheet .now) (c .before .loop .d) sheet-bytes .count) (c .before .before .before .before .gather-blocks .ensures) (c .before .loop .inv .4)
 
 gather-blocks-requires : tie.Need-gather-blocks-requires Inv-loop μ-loop
 gather-blocks-requires c κs = (c .before .before .before .pre .0, c .before .before .before .pre .1)
 
 loop-holds : tie.Need-loop-holds Inv-loop μ-loop
-loop-holds c = (omega arith, refl, omega arith, turn-start _ _, rows-start _ _ _)
+loop-holds c = (omega arith, refl, omega arith, turn-start _ _ _, rows-start _ _ _)
 
 mul-a : tie.Need-mul-a Inv-loop μ-loop
 mul-a c = omega (arith, inside c)
@@ -100,7 +100,7 @@ returns c =
     let a = start i .args in
     let l = i .before .loop in
     let e = c .before .before .before .before .correct-block .ensures in
-    turn-stop (a .p) (a .sheet .now) (l .d) (l .changed) (i .loop-test .taken) (l .inv .3) _ (answer-at (a .p) (a .sheet .now) _ (l .d) _ (part-read i) (e .answer)) _
+    turn-stop (a .mode) (a .p) (a .sheet .now) (l .d) (l .changed) (i .loop-test .taken) (l .inv .3) _ (answer-at (a .mode) (a .p) (a .sheet .now) _ (l .d) (part-read i) _ (e .answer)) _
     (sym (c .before .is-corrected .ensures) ∙ not-true _ (c .if1 .taken))
 
 changed-by-requires : tie.Need-changed-by-requires Inv-loop μ-loop
@@ -123,16 +123,16 @@ loop-again c =
     let a = start i .args in
     let l = i .before .loop in
     let b = c .before .before .before .before .before .correct-block in
-    let ys : List ℕ = b .last .1 .0 in
-    let kept : length ys ≡ length (midOf (at i) (at i + n i - at i) (l .scratch)) = b .kept .1 .0 in
+    let ys : List ℕ = b .last .1 .1 .0 in
+    let kept : length ys ≡ length (midOf (at i) (at i + n i - at i) (l .scratch)) = b .kept .1 .1 .0 in
     let yes : isCorrected (b .result) ≡ true = sym (c .before .before .is-corrected .ensures) ∙ not-false _ (c .before .if1 .left) in (
       omega (arith, i .loop-test .taken),
       same-len-mid (at i) (at i + n i - at i) (l .scratch) ys kept ∙ l .inv .1,
       omega (arith, changed-small (b .result), c .changed-by .ensures, l .inv),
       rw (c .changed-by .ensures)
-          (turn-on (a .p) (a .sheet .now) (l .d) (l .changed) (i .loop-test .taken) (l .inv .3) _ (answer-at (a .p) (a .sheet .now) _ (l .d) _ (part-read i) (b .ensures .answer)) (start i .pre .0) (sheet-bytes i) yes),
-      rows-more (n i) (l .d) (codeword (a .p) (a .sheet .now)) (gathered (i .before .before .before .before)) (l .scratch) (l .inv .4) ys (omega (arith, inside i, l .inv .1)) (kept ∙ part-long i)
-          (word-at (a .p) (a .sheet .now) _ ys (l .d) (part-read i) (b .ensures .word yes)),
+          (turn-on (a .mode) (a .p) (a .sheet .now) (l .d) (l .changed) (i .loop-test .taken) (l .inv .3) _ (answer-at (a .mode) (a .p) (a .sheet .now) _ (l .d) (part-read i) _ (b .ensures .answer)) (start i .pre .0) (sheet-bytes i) yes),
+      rows-more (n i) (l .d) (codeword (a .mode) (a .p) (a .sheet .now)) (gathered (i .before .before .before .before)) (l .scratch) (l .inv .4) ys (omega (arith, inside i, l .inv .1)) (kept ∙ part-long i)
+          (word-at (a .mode) (a .p) (a .sheet .now) _ (l .d) (part-read i) ys (b .ensures .word yes)),
     )
 
 same-length-2 : tie.Need-same-length-2 Inv-loop μ-loop
@@ -143,8 +143,8 @@ returns-2 c =
     let a = c .before .before .before .before .before .before .before .before .args in
     let l = c .before .loop in
     let e : l .d ≡ a .p .depth = omega arith in
-    turn-end (a .p) (a .sheet .now) (l .d) (l .changed) _ e (l .inv .3)
-    (rows-end (a .p .n) (l .d) (codeword (a .p) (a .sheet .now)) (gathered (c .before .before .before .before)) (l .scratch) (l .inv .4) (a .p .depth) e (gathered-long (c .before .before .before .before)))
+    turn-end (a .mode) (a .p) (a .sheet .now) (l .d) (l .changed) _ e (l .inv .3)
+    (rows-end (a .p .n) (l .d) (codeword (a .mode) (a .p) (a .sheet .now)) (gathered (c .before .before .before .before)) (l .scratch) (l .inv .4) (a .p .depth) e (gathered-long (c .before .before .before .before)))
 
 pub correct-blocks-spec : {M : Type 1} → statement M
 correct-blocks-spec =

@@ -6,13 +6,13 @@ use second::random::Random;
 use second::{block, cases, gf, Profile};
 
 /// What a lent buffer holds at entry.
-const UNTOUCHED: u8 = 170;
+pub const UNTOUCHED: u8 = 170;
 
 /// A read block with its profile and the length of the second buffer.
-type Input = (Profile, Vec<u8>, usize);
+pub type Input = (Profile, Vec<u8>, usize);
 
 /// n, r and b.
-type Size = (usize, usize, usize);
+pub type Size = (usize, usize, usize);
 
 /// The sizes of the random vectors.
 const SIZES: [Size; 12] = [
@@ -30,18 +30,18 @@ const SIZES: [Size; 12] = [
     (255, 64, 254),
 ];
 
-fn profile((n, r, b): Size, limit: usize, depth: usize) -> Profile {
+pub fn profile((n, r, b): Size, limit: usize, depth: usize) -> Profile {
     Profile { n, r, b, limit, depth }
 }
 
-fn codeword(profile: &Profile, random: &mut Random) -> Vec<u8> {
+pub fn codeword(profile: &Profile, random: &mut Random) -> Vec<u8> {
     let mut cells = vec![0; profile.n];
     block::write(profile, &random.bytes(profile.k()), &mut cells).expect("a good profile");
     cells
 }
 
 /// Changes cells within the run, its first and its last for certain.
-fn damage(cells: &mut [u8], start: usize, length: usize, random: &mut Random) {
+pub fn damage(cells: &mut [u8], start: usize, length: usize, random: &mut Random) {
     for (i, cell) in cells[start..start + length].iter_mut().enumerate() {
         let end = i == 0 || i + 1 == length;
         *cell ^= if end { random.nonzero() } else { random.byte() };
@@ -50,12 +50,16 @@ fn damage(cells: &mut [u8], start: usize, length: usize, random: &mut Random) {
 
 /// Document 01's rows, profiles out of range, and wrong lengths.
 fn example_inputs() -> Vec<Input> {
+    let rows = cases::corrections().into_iter();
+    let mut inputs: Vec<Input> = rows.map(|case| (case.profile, case.read.into(), 4)).collect();
+    inputs.extend(refused_inputs());
+    inputs
+}
+
+/// Profiles out of range, and wrong lengths.
+pub fn refused_inputs() -> Vec<Input> {
     let four = |profile| (profile, vec![8, 14, 7, 1], 4);
-    let mut inputs: Vec<Input> = cases::corrections()
-        .into_iter()
-        .map(|case| (case.profile, case.read.into(), 4))
-        .collect();
-    inputs.extend(cases::profiles_out_of_range().into_iter().map(four));
+    let mut inputs: Vec<Input> = cases::profiles_out_of_range().into_iter().map(four).collect();
     inputs.push((profile((4, 3, 0), 3, 1), vec![1; 3], 5));
     for (first, second) in [(3, 4), (5, 4), (0, 4), (4, 3), (4, 5), (4, 0)] {
         inputs.push((profile((4, 3, 0), 2, 1), vec![8; first], second));

@@ -1,4 +1,4 @@
-//! Prints test vectors with fixed seeds: inputs, and the answers that document 01 demands.
+//! Prints test vectors with fixed seeds: inputs, and the answers that documents 01 and 02 demand.
 //!
 //!     vectors KIND             one line per vector: its input, `=`, its answer, all in decimal
 //!     vectors KIND --bytes     the inputs as one byte stream
@@ -26,14 +26,20 @@
 //!                                                             part (0 if refused); the part's bytes
 //!             byte 2, buffer payload, word plot to add,       number; record's first byte or place; the payload's
 //!             buffer lines                                    bytes at exit
+//! spots       byte 0, then as blocks, in spot mode            number; cells changed; the lowest of them; the second
+//!                                                             buffer's bytes at exit
+//!             byte 1, then as sheets after its byte 1, in     as there
+//!             spot mode
 //! library     as block; then as sheets, with bytes 3 and 4;   as there
-//!             then as plots, with bytes 5, 6 and 7
+//!             then as plots, with bytes 5, 6 and 7; then as
+//!             spots, with bytes 8 and 9
 //! lists       buffer standard input                           length of the text; its bytes
 //! generators  word b, word r                                  the r+1 coefficients, lowest first
 
 mod blocks;
 mod plots;
 mod sheets;
+mod spots;
 mod vector;
 
 use std::io::{self, Read, Write};
@@ -46,6 +52,7 @@ fn vectors(kind: &str) -> Option<Vec<Vector>> {
         "checks" => Some(blocks::checks()),
         "block" => Some(blocks::operations()),
         "sheets" => Some(sheets::sheets()),
+        "spots" => Some(spots::spots()),
         "library" => Some(library()),
         "plots" => Some(plots::plots()),
         "lists" => Some(sheets::lists()),
@@ -59,6 +66,7 @@ fn library() -> Vec<Vector> {
     let mut vectors = blocks::operations();
     vectors.extend(counted_from(3, sheets::sheets()));
     vectors.extend(counted_from(5, plots::plots()));
+    vectors.extend(counted_from(8, spots::spots()));
     vectors
 }
 
@@ -98,7 +106,9 @@ fn main() -> io::Result<()> {
     match output(&arguments)? {
         Some(bytes) => io::stdout().write_all(&bytes),
         None => {
-            eprintln!("vectors blocks|writes|checks|block|sheets|library|plots|lists|generators [--bytes|--answers]");
+            eprintln!(
+                "vectors blocks|writes|checks|block|sheets|spots|library|plots|lists|generators [--bytes|--answers]"
+            );
             std::process::exit(2)
         }
     }
@@ -112,14 +122,15 @@ mod tests {
     /// Each kind has an accepted vector and one for each refusal that its entries can give.
     #[test]
     fn every_number_occurs() {
-        let expected: [(&str, &[usize]); 7] = [
+        let expected: [(&str, &[usize]); 8] = [
             ("blocks", &[0, 1, 2, 3, 4]),
             ("writes", &[0, 1, 2]),
             ("checks", &[0, 1, 2]),
             ("block", &[0, 1, 2, 3, 4]),
             ("sheets", &[0, 1, 2, 3, 4]),
             ("plots", &[0, 2, 5, 6, 7, 8, 9, 10]),
-            ("library", &[0, 1, 2, 3, 4, 5, 6, 7, 8, 9, 10]),
+            ("spots", &[0, 1, 2, 11]),
+            ("library", &[0, 1, 2, 3, 4, 5, 6, 7, 8, 9, 10, 11]),
         ];
         for (kind, numbers) in expected {
             let found: BTreeSet<usize> = vectors(kind).unwrap().iter().map(|vector| vector.answer[0]).collect();

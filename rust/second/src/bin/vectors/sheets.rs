@@ -2,10 +2,10 @@
 
 use crate::vector::{answer, profile_fields, Field, Vector};
 use second::random::Random;
-use second::{cases, lister, plot, sheet, Profile};
+use second::{cases, lister, plot, sheet, Mode, Profile};
 
 /// n, r, b, L and D of the random sheets.
-const PROFILES: [[usize; 5]; 10] = [
+pub const PROFILES: [[usize; 5]; 10] = [
     [3, 2, 0, 1, 8],
     [4, 3, 0, 2, 2],
     [20, 8, 7, 7, 5],
@@ -32,11 +32,21 @@ fn write_vector(profile: &Profile, payload: &[u8], mut cells: Vec<u8>) -> Vector
     }
 }
 
-fn read_vector(profile: &Profile, cells: &[u8], mut scratch: Vec<u8>, mut payload: Vec<u8>) -> Vector {
+fn read_vector(profile: &Profile, cells: &[u8], scratch: Vec<u8>, payload: Vec<u8>) -> Vector {
+    read_vector_in(Mode::Burst, profile, cells, scratch, payload)
+}
+
+pub fn read_vector_in(
+    mode: Mode,
+    profile: &Profile,
+    cells: &[u8],
+    mut scratch: Vec<u8>,
+    mut payload: Vec<u8>,
+) -> Vector {
     let mut fields = vec![Field::Byte(1)];
     fields.extend(profile_fields(profile));
     fields.extend([cells, &scratch, &payload].map(|buffer| Field::Bytes(buffer.into())));
-    let numbers = match sheet::read(profile, cells, &mut scratch, &mut payload) {
+    let numbers = match sheet::read_in(mode, profile, cells, &mut scratch, &mut payload) {
         Ok(changed) => [0, changed],
         Err(refusal) => [refusal.number.into(), refusal.place],
     };
@@ -47,7 +57,7 @@ fn read_vector(profile: &Profile, cells: &[u8], mut scratch: Vec<u8>, mut payloa
 }
 
 /// Replaces the cells of a run of the sheet.
-fn damage(cells: &[u8], length: usize, random: &mut Random) -> Vec<u8> {
+pub fn damage(cells: &[u8], length: usize, random: &mut Random) -> Vec<u8> {
     let mut damaged = cells.to_vec();
     let start = random.between(0, cells.len() - length);
     damaged[start..start + length].copy_from_slice(&random.bytes(length));
@@ -55,7 +65,7 @@ fn damage(cells: &[u8], length: usize, random: &mut Random) -> Vec<u8> {
 }
 
 /// Replaces all cells of the blocks from this one on by noise.
-fn damage_blocks(profile: &Profile, cells: &[u8], from: usize, random: &mut Random) -> Vec<u8> {
+pub fn damage_blocks(profile: &Profile, cells: &[u8], from: usize, random: &mut Random) -> Vec<u8> {
     let noise = random.bytes(cells.len());
     let choose = |p: usize| if p % profile.depth < from { cells[p] } else { noise[p] };
     (0..cells.len()).map(choose).collect()
@@ -84,8 +94,8 @@ fn random_sheets(profile: &Profile, random: &mut Random) -> Vec<Vector> {
     vectors
 }
 
-/// Sheets of document 01's blocks 8 14 7 1 (clean), 8 14 0 0 (tied) and 9 14 7 0 (torn), L being 2.
-fn lowest_refused() -> Vec<Vector> {
+/// Sheets of document 01's blocks 8 14 7 1 (clean), 8 14 0 0 (tied) and 9 14 7 0 (torn), L being 2; no codeword is within h of the latter two.
+pub fn lowest_refused(mode: Mode) -> Vec<Vector> {
     let [clean, ambiguous, unreachable] = [[8, 14, 7, 1], [8, 14, 0, 0], [9, 14, 7, 0]];
     let rows = [
         [clean, ambiguous, unreachable],
@@ -96,22 +106,34 @@ fn lowest_refused() -> Vec<Vector> {
     ];
     let vector = |blocks: [[u8; 4]; 3]| {
         let cells: Vec<u8> = (0..12).map(|p| blocks[p % 3][p / 3]).collect();
-        read_vector(&Profile::from([4, 3, 0, 2, 3]), &cells, vec![170; 12], vec![170; 3])
+        let profile = Profile::from([4, 3, 0, 2, 3]);
+        read_vector_in(mode, &profile, &cells, vec![170; 12], vec![170; 3])
     };
     rows.map(vector).into()
 }
 
+/// Refusals 1 and 2 of the reader.
+pub fn refused_reads(mode: Mode) -> (Vec<Vector>, Vec<Vector>) {
+    let vector = |profile: &Profile, [a, b, c]: [usize; 3]| {
+        read_vector_in(mode, profile, &vec![9; a], vec![170; b], vec![170; c])
+    };
+    let bad = cases::profiles_out_of_range().into_iter();
+    let good = Profile::from([4, 3, 0, 2, 2]);
+    (
+        bad.map(|profile| vector(&profile, [4, 4, 1])).collect(),
+        cases::WRONG_LENGTHS.map(|lengths| vector(&good, lengths)).into(),
+    )
+}
+
 /// Refusals 1 and 2, 1 before 2.
 fn refused() -> Vec<Vector> {
+    let (bad_profiles, wrong_lengths) = refused_reads(Mode::Burst);
     let mut vectors = Vec::new();
-    for bad in cases::profiles_out_of_range() {
-        vectors.push(write_vector(&bad, &[1], vec![170; 4]));
-        vectors.push(read_vector(&bad, &[9; 4], vec![170; 4], vec![170; 1]));
+    for (bad, read) in cases::profiles_out_of_range().into_iter().zip(bad_profiles) {
+        vectors.extend([write_vector(&bad, &[1], vec![170; 4]), read]);
     }
+    vectors.extend(wrong_lengths);
     let good = Profile::from([4, 3, 0, 2, 2]);
-    for [a, b, c] in cases::WRONG_LENGTHS {
-        vectors.push(read_vector(&good, &vec![9; a], vec![170; b], vec![170; c]));
-    }
     for (a, b) in [(1, 8), (3, 8), (2, 7), (2, 9), (0, 0)] {
         vectors.push(write_vector(&good, &vec![9; a], vec![170; b]));
     }
@@ -124,7 +146,7 @@ pub fn sheets() -> Vec<Vector> {
     for numbers in PROFILES {
         vectors.extend(random_sheets(&Profile::from(numbers), &mut random));
     }
-    vectors.extend(lowest_refused());
+    vectors.extend(lowest_refused(Mode::Burst));
     vectors.extend(refused());
     vectors
 }

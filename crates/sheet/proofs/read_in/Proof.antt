@@ -9,8 +9,8 @@ use Rattle.profile.specs.Profile.{inRange}
 use Rattle.profile.proofs.Ranges.{in-range}
 use Rattle.sheet.specs.Sheet.{readFits}
 use Rattle.sheet.proofs.Entry.{read-lengths, read-bad, read-wrong, read-refused, read-accepted}
-use Rattle.sheet.proofs.read.Statement.{statement}
-use Rattle.sheet.proofs.read.Tie as tie
+use Rattle.sheet.proofs.read_in.Statement.{statement}
+use Rattle.sheet.proofs.read_in.Tie as tie
 
 -- past the first test the profile is in range, past the second the lengths fit
 ranged : (c : tie.Else1) → inRange (c .before .before .before .before .before .args .p) ≡ true
@@ -24,13 +24,13 @@ in-range-requires : tie.Need-in-range-requires
 in-range-requires c κs = search needs
 
 returns : tie.Need-returns
-returns c = read-bad _ _ _ _ (sym (c .before .in-range .ensures) ∙ not-true _ (c .if1 .taken))
+returns c = read-bad _ _ _ _ _ (sym (c .before .in-range .ensures) ∙ not-true _ (c .if1 .taken))
 
 read-fits-requires : tie.Need-read-fits-requires
 read-fits-requires c κs = in-range _ .0 (ranged c)
 
 returns-2 : tie.Need-returns-2
-returns-2 c = read-wrong _ _ _ _ (ranged (c .before .before)) (sym (c .before .read-fits .ensures) ∙ not-true _ (c .if2 .taken))
+returns-2 c = read-wrong _ _ _ _ _ (ranged (c .before .before)) (sym (c .before .read-fits .ensures) ∙ not-true _ (c .if2 .taken))
 
 correct-blocks-requires : tie.Need-correct-blocks-requires
 correct-blocks-requires c κs =
@@ -50,15 +50,15 @@ returns-3 : tie.Need-returns-3
 returns-3 c =
     let b = c .before .before .before .before .before .before .before .before .correct-blocks in
     let i = c .before .before .before .before .before .before .before .before .before .before in
-    read-refused _ _ _ _ (ranged (i .before .before)) (fitting i) _ _ (b .ensures)
+    read-refused _ _ _ _ _ (ranged (i .before .before)) (fitting i) _ _ (b .ensures)
     (sym (c .before .before .before .before .before .is-accepted .ensures) ∙ not-true _ (c .before .before .before .before .if3 .taken)) _
-    (c .before .before .clear .ensures ∙ ap (λ (m : ℕ). replicate m 0) (b .kept .1 .1 .0))
+    (c .before .before .clear .ensures ∙ ap (λ (m : ℕ). replicate m 0) (b .kept .1 .1 .1 .0))
 
 copy-messages-requires : tie.Need-copy-messages-requires
 copy-messages-requires c κs =
     let i = c .before .before .before .before .before .before .before .before in
     let e = read-lengths _ _ _ _ (fitting i) in
-    (in-range _ .0 (ranged (i .before .before)), (c .before .before .before .before .before .before .correct-blocks .kept .1 .1 .0 ∙ e .1, e .2))
+    (in-range _ .0 (ranged (i .before .before)), (c .before .before .before .before .before .before .correct-blocks .kept .1 .1 .1 .0 ∙ e .1, e .2))
 
 clear-requires-2 : tie.Need-clear-requires-2
 clear-requires-2 c κs = search needs
@@ -74,12 +74,12 @@ returns-4 c =
     let b = c .before .before .before .before .before .before .before .before .before .before .before .before .before .correct-blocks in
     let i = c .before .before .before .before .before .before .before .before .before .before .before .before .before .before .before in
     let k = c .before .before .before .before .before .before .before .before .before in
-    read-accepted _ _ _ _ (ranged (i .before .before)) (fitting i) _ _ (b .ensures) (in-range _ .0 (ranged (i .before .before)))
+    read-accepted _ _ _ _ _ (ranged (i .before .before)) (fitting i) _ _ (b .ensures) (in-range _ .0 (ranged (i .before .before)))
     (sym (k .before .is-accepted .ensures) ∙ not-false _ (k .if3 .left)) _ _
-    (c .before .before .clear2 .ensures ∙ ap (λ (m : ℕ). replicate m 0) (b .kept .1 .1 .0)) (c .before .before .before .before .before .before .copy-messages .ensures)
+    (c .before .before .clear2 .ensures ∙ ap (λ (m : ℕ). replicate m 0) (b .kept .1 .1 .1 .0)) (c .before .before .before .before .before .before .copy-messages .ensures)
 
-pub read-spec : {M : Type 1} → statement M
-read-spec =
+pub read-in-spec : {M : Type 1} → statement M
+read-in-spec =
     tie.close
     (tie.spec
     in-range-requires

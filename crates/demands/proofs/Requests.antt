@@ -1,0 +1,29 @@
+-- The requests of document 02, each from the theorem of its own crate.
+use mathlib.Core.Path.{sym, ap, _∙_}
+use Rattle.code.specs.Code.{distance}
+use Rattle.code.proofs.Distance.{distance-self}
+use Rattle.spots.proofs.Promises.{corrected-cells-iff, too-many-errors-iff, no-tie, near-comes-back, limit-free, spot-refusals}
+use Rattle.sheet.specs.declared.Mode.the-variants.{Spots}
+use Rattle.sheet.proofs.Theorems.{read-results}
+use Rattle.sheet.proofs.Refusals.{sheet-refusals}
+use Rattle.sheet.proofs.Promise.{sheet-promise}
+use Rattle.plot.proofs.Sheets.{same-after-errors}
+use Rattle.demands.specs.Requests.{Request1, Requests}
+
+request-1 : Request1
+request-1 = record {
+  nearest = corrected-cells-iff;
+  reading = read-results Spots;
+  result = λ p y t j c o. (o .count, o .lowest, λ e. (sym (o .count) ∙ ap (distance y) e ∙ distance-self y, o .lowest .clean e));
+  no-tie = no-tie;
+  back = near-comes-back;
+  sheet-back = λ p m cells sheet scratch out v h c f b. let q = sheet-promise p m cells v h c .few-errors sheet scratch out f b in (q .number, q .payload);
+  asking = same-after-errors;
+  too-many = too-many-errors-iff;
+  refusals = spot-refusals;
+  sheet-refusals = λ p. sheet-refusals p .reads Spots;
+  limit = limit-free;
+}
+
+pub requests : Requests
+requests = record { first = request-1 }

@@ -1,0 +1,45 @@
+-- What document 02 asks for, sentence by sentence in its own words ("Later changes to the base"), each with the statement that says it. A statement is defined
+-- in the crate that its `use` line names; proofs/Requests.antt proves them all.
+use mathlib.Core.Path.{_≡_}
+use mathlib.Core.List.{List}
+use Prim.Native.Nat.{ℕ, _*_}
+use lib.ListN.{length}
+use Rattle.code.specs.Code.{distance}
+use Rattle.profile.specs.Profile.{InRange}
+use Rattle.profile.specs.declared.Profile.{Profile}
+use Rattle.spots.specs.Nearest.{LowestChanged, NearestWord}
+use Rattle.spots.specs.Promises.{CorrectedCellsIff, TooManyErrorsIff, NoTie, NearComesBack, LimitFree, SpotRefusals}
+use Rattle.sheet.specs.declared.Mode.the-variants.{Spots}
+use Rattle.sheet.specs.Sheet.{writeSheetLeaves, readAnswer, readPayload}
+use Rattle.sheet.specs.Numbers.{readingNumber}
+use Rattle.sheet.specs.Buffers.{Payload, Lent}
+use Rattle.sheet.specs.Theorems.{Results, ReadRefusals}
+use Rattle.sheet.specs.Promise.{FewErrors}
+use Rattle.plot.specs.Sheets.{SameAfterErrors}
+
+-- Note 1, mould spots
+pub record Request1 : Type 0 where
+  -- "A sheet may be read in spot mode: each block goes to the codeword that differs in the fewest cells, up to h cells anywhere, by the shift-register method of
+  -- source document 002 or another."
+  pub nearest : CorrectedCellsIff
+  pub reading : (p : Profile) (sheet scratch out : List ℕ) → InRange p → Lent p sheet scratch out → Results Spots p sheet scratch out
+  -- "The result is the number of cells changed and the lowest of them (0 if clean)."
+  pub result : (p : Profile) (y : List ℕ) (t j : ℕ) (c : List ℕ) → NearestWord p y t j c → (distance y c ≡ t) × LowestChanged p y j c × (c ≡ y → (t ≡ 0) × (j ≡ 0))
+  -- "A tie can't occur here, and that should be shown."
+  pub no-tie : NoTie
+  -- "The user's wish is that any h spots a block come back.": of one block, of a sheet, and of what is asked of its payload
+  pub back : NearComesBack
+  pub sheet-back : (p : Profile) (payload cells sheet scratch out : List ℕ) → InRange p → Payload p payload → length cells ≡ p .depth * p .n
+      → FewErrors p (writeSheetLeaves p payload cells) sheet → Lent p sheet scratch out
+      → (readingNumber (readAnswer Spots p sheet scratch out) ≡ 0) × (readPayload Spots p sheet scratch out ≡ payload)
+  pub asking : SameAfterErrors
+  -- "Answers: 11 spotted, in this mode instead of 3 and with 3's order and place, exactly when no codeword is that near.": on a sheet the lowest block that
+  -- is refused is the place, as `reading` says
+  pub too-many : TooManyErrorsIff
+  pub refusals : (p : Profile) (y out : List ℕ) → SpotRefusals p y out
+  pub sheet-refusals : (p : Profile) (sheet scratch out : List ℕ) → ReadRefusals Spots p sheet scratch out
+  -- what the note leaves open, as decided: L has to be in its range and has no other effect
+  pub limit : LimitFree
+
+pub record Requests : Type 0 where
+  pub first : Request1

@@ -1,0 +1,5 @@
+pub mod Words
+pub mod Verdicts
+pub mod Answers
+pub mod Promises
+pub mod Correcting

@@ -1,0 +1,148 @@
+-- The promises of specs/Promises.antt. Where profile and lengths are right the entry answers the verdict, of which Verdicts.antt says what it means; else
+-- it answers refusal 1 or 2.
+use mathlib.Core.Path.{_≡_, refl, sym, ap, _∙_}
+use mathlib.Core.Logic.{_↔_, _≢_, _⊎_, inl, inr, ⊎-elim}
+use mathlib.Core.List.{List}
+use Prim.Native.Nat.{ℕ, _<_}
+use native.Mathlib.Omega.{arith}
+use lib.ListN.{length}
+use Rattle.lists.specs.Choice.{pick}
+use Rattle.lists.proofs.Test.{pick-of}
+use Rattle.code.specs.Code.{distance}
+use Rattle.locator.proofs.Theorems.{nearest-only}
+use Rattle.profile.specs.Profile.{InRange, inRange, half}
+use Rattle.profile.specs.Refusals.{refusing, EarlyRefusals}
+use Rattle.profile.proofs.Ranges.{in-range}
+use Rattle.profile.proofs.Refusing.{early-of}
+use Rattle.block.specs.Block.{correctFits}
+use Rattle.block.specs.Numbers.{verdictNumber, verdictCount, verdictLowest}
+use Rattle.block.specs.Promises.{LentBlock}
+use Rattle.block.proofs.Promises.{two-lengths}
+use Rattle.block.proofs.NumberLaws.{no-values}
+use Rattle.profile.specs.declared.Profile.{Profile}
+use Rattle.block.specs.declared.Verdict.{Verdict}
+use Rattle.block.specs.declared.Verdict.the-variants.{BadProfile, WrongLength, CorrectedCells}
+use Rattle.spots.specs.Spots.{spotDecided, readSyndromes, spotVerdict, spotWord, spotAnswer, spotLeaves}
+use Rattle.spots.specs.Nearest.{Near, NoneNear, NearestWord}
+use Rattle.spots.specs.Promises.{CorrectsCells, CorrectedCellsIff, TooManyErrorsIff, NoTie, NearComesBack, LimitFree, SpotRefusals}
+use Rattle.spots.proofs.Words.{word-or-not}
+use Rattle.spots.proofs.Verdicts.{spot-none, spot-one, spot-some, spot-near}
+use Rattle.spots.proofs.Answers.{spot-of, spot-kept, spot-answer, spot-leaves}
+
+module _ (p : Profile) (y out : List ℕ) (v : InRange p) (h : LentBlock p y out) where
+  is-verdict : spotAnswer p y out ≡ spotVerdict p y
+  is-verdict = spot-answer p v y (h .cells .count) out (h .second)
+
+  leaves-word : {t j : ℕ} → spotVerdict p y ≡ CorrectedCells t j → spotLeaves p y out ≡ spotWord p y
+  leaves-word q = spot-leaves p v y (h .cells .count) out (h .second) (ap verdictNumber q)
+
+  corrects : (t j : ℕ) (c : List ℕ) → NearestWord p y t j c → CorrectsCells p y out t j c
+  corrects t j c o =
+      let q = spot-one p y v (h .cells) t j c .1 o in
+      let a : spotAnswer p y out ≡ CorrectedCells t j = is-verdict ∙ q .0 in
+      record { accepted = ap verdictNumber a; count = ap verdictCount a; lowest = ap verdictLowest a; leaves = leaves-word (q .0) ∙ q .1 }
+
+  -- an accepted block has its codeword
+  nearest : (t j : ℕ) (c : List ℕ) → CorrectsCells p y out t j c → NearestWord p y t j c
+  nearest t j c k =
+      ⊎-elim
+      (λ n. absurd (let z : _≡_ {A = ℕ} 11 0 = sym (ap verdictNumber (is-verdict ∙ spot-none p y v (h .cells) .1 n)) ∙ k .accepted in omega arith))
+      (λ o.
+      let m = corrects (o .0) (o .1) (o .2) (o .3) in
+      same (sym (m .count) ∙ k .count) (sym (m .lowest) ∙ k .lowest) (sym (m .leaves) ∙ k .leaves) (o .3))
+      (spot-some p y v (h .cells))
+    where
+      same : {t′ j′ : ℕ} {c′ : List ℕ} → t′ ≡ t → j′ ≡ j → c′ ≡ c → NearestWord p y t′ j′ c′ → NearestWord p y t j c
+      same et ej ec o = rw (sym et, sym ej, sym ec) o
+
+  too-many : (verdictNumber (spotAnswer p y out) ≡ 11) ↔ NoneNear p y
+  too-many = (
+    λ q. ⊎-elim (λ n. n)
+        (λ o. absurd (let z : _≡_ {A = ℕ} 0 11 = sym (corrects (o .0) (o .1) (o .2) (o .3) .accepted) ∙ q in omega arith)) (spot-some p y v (h .cells)),
+    λ n. ap verdictNumber (is-verdict ∙ spot-none p y v (h .cells) .1 n),
+  )
+
+pub corrected-cells-iff : CorrectedCellsIff
+corrected-cells-iff p y out t j c v h = (nearest p y out v h t j c, corrects p y out v h t j c)
+
+pub too-many-errors-iff : TooManyErrorsIff
+too-many-errors-iff = too-many
+
+pub near-comes-back : NearComesBack
+near-comes-back p y out c v h k =
+    let o = spot-near p y v (h .cells) c k in
+    let m = corrects p y out v h (o .0) (o .1) c (o .2) in
+    (m .accepted, m .leaves)
+
+pub no-tie : NoTie
+no-tie p y c d v e j k =
+    let closer : (a b : List ℕ) → Near p y a → Near p y b → b ≢ a → distance y a < distance y b =
+    λ a b l m n. nearest-only (p .n) (p .r) (p .b) (half p) y a b (v .n-most) e (omega arith) (record { codeword = l .word; near = l .within }) (m .word) n in
+    ⊎-elim (λ q. q) (λ n. absurd (let z : distance y c < distance y d = closer c d j k (λ q. n (sym q)) in let w : distance y d < distance y c = closer d c k j n in omega arith))
+    (word-or-not c d (j .word .cells ∙ sym (k .word .cells)))
+
+-- ---- what the answer reads of the profile
+
+module _ (p q : Profile) (y out : List ℕ) (v : InRange p) (w : InRange q) (en : p .n ≡ q .n) (er : p .r ≡ q .r) (eb : p .b ≡ q .b) where
+  same-fits : correctFits p y out ≡ correctFits q y out
+  unfolding correctFits
+  same-fits = rw en
+
+  same-verdict : spotVerdict p y ≡ spotVerdict q y
+  unfolding spotVerdict spotDecided readSyndromes
+  same-verdict = rw (en, er, eb)
+
+  same-word : spotWord p y ≡ spotWord q y
+  unfolding spotWord
+  same-word = rw (er, eb)
+
+  same-answer : spotAnswer p y out ≡ spotAnswer q y out
+  unfolding spotAnswer refusing
+  same-answer = rw (in-range p .1 v, in-range q .1 w, same-fits, same-verdict)
+
+  same-leaves : spotLeaves p y out ≡ spotLeaves q y out
+  unfolding spotLeaves
+  same-leaves = rw (same-answer, same-word)
+
+pub limit-free : LimitFree
+limit-free p q y out v w en er eb = (same-answer p q y out v w en er eb, same-leaves p q y out v w en er eb)
+
+-- ---- refusals
+
+-- the verdict is none of the first two refusals
+abbrev Late : Verdict → Type 0
+Late w = (verdictNumber w ≡ 0) ⊎ (verdictNumber w ≡ 11)
+
+verdict-late : (p : Profile) (y : List ℕ) → Late (spotVerdict p y)
+verdict-late = spot-of Late (inr refl) (λ t j. inl refl)
+
+not-early : (w : Verdict) → Late w → (verdictNumber w ≢ 1) × (verdictNumber w ≢ 2)
+not-early w l = (λ q. ⊎-elim (λ z. omega arith) (λ z. omega arith) l, λ q. ⊎-elim (λ z. omega arith) (λ z. omega arith) l)
+
+abbrev Numbered : Verdict → Type 0
+Numbered w = verdictNumber w ≢ 0 → (verdictNumber w ≡ 1) ⊎ ((verdictNumber w ≡ 2) ⊎ (verdictNumber w ≡ 11))
+
+late-numbered : (w : Verdict) → Late w → Numbered w
+late-numbered w l n = ⊎-elim (λ z. absurd (n z)) (λ z. inr (inr z)) l
+
+module _ (p : Profile) (y out : List ℕ) where
+  numbered : Numbered (spotAnswer p y out)
+  unfolding spotAnswer refusing
+  numbered =
+      pick-of Numbered (inRange p) (pick (correctFits p y out) (spotVerdict p y) WrongLength) BadProfile
+      (pick-of Numbered (correctFits p y out) (spotVerdict p y) WrongLength (late-numbered (spotVerdict p y) (verdict-late p y)) (λ n. inr (inl refl))) (λ n. inl refl)
+
+  early : EarlyRefusals p ((length y ≡ p .n) × (length out ≡ p .n)) (verdictNumber (spotAnswer p y out))
+  unfolding spotAnswer correctFits
+  early =
+      let l = not-early (spotVerdict p y) (verdict-late p y) in
+      early-of p (correctFits p y out) _ (two-lengths (length y) (length out) (p .n) (p .n)) verdictNumber BadProfile WrongLength (spotVerdict p y) refl refl (l .0) (l .1)
+
+  pub spot-refusals : SpotRefusals p y out
+  spot-refusals = record {
+    early = early;
+    numbers = numbered;
+    place = refl;
+    kept = spot-kept p y out;
+    cells = λ n. let z = no-values (spotAnswer p y out) n in (z .count, z .lowest);
+  }

@@ -1,0 +1,4 @@
+pub mod Spots
+pub mod Nearest
+pub mod Promises
+pub mod Steps

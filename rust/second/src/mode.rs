@@ -1,0 +1,25 @@
+//! The modes in which a sheet may be read. They differ in the codeword that a block goes to and in the numbers by which a block is refused.
+
+use crate::block::{self, Profile};
+use crate::refusal::Refusal;
+use crate::spots;
+
+#[derive(Clone, Copy, Debug, PartialEq, Eq)]
+pub enum Mode {
+    /// Document 01: the codeword within the shortest run.
+    Burst,
+    /// Document 02, Note 1: the codeword that differs in the fewest cells.
+    Spots,
+}
+
+impl Mode {
+    pub const ALL: [Mode; 2] = [Mode::Burst, Mode::Spots];
+
+    /// Corrects a block in this mode.
+    pub fn correct(self, profile: &Profile, read: &[u8], corrected: &mut [u8]) -> Result<(), Refusal> {
+        match self {
+            Mode::Burst => block::correct(profile, read, corrected).map(|_| ()),
+            Mode::Spots => spots::correct(profile, read, corrected).map(|_| ()),
+        }
+    }
+}
