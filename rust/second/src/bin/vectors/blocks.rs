@@ -111,25 +111,34 @@ fn wrapped_inputs(random: &mut Random) -> Vec<Input> {
     inputs
 }
 
+/// Sizes at which blocks between two codewords are tried: small and large, r odd and even.
+pub const NEIGHBOUR_SIZES: [Size; 6] = [
+    (4, 3, 9),
+    (9, 4, 0),
+    (30, 8, 77),
+    (60, 15, 254),
+    (255, 63, 40),
+    (255, 64, 128),
+];
+
+/// A codeword of r+1 neighbouring cells that are not zero: the first of them, and the cells.
+pub fn neighbour((n, r, b): Size, random: &mut Random) -> (usize, Vec<u8>) {
+    let (start, factor) = (random.between(0, n - r - 1), random.nonzero());
+    let cells = generator(b, r).into_iter().map(|x| gf::product(factor, x)).collect();
+    (start, cells)
+}
+
 /// Blocks as near to one as to another of two codewords that differ in r+1 neighbouring cells, with L at
 /// that length (document 01: tied) and one below it.
 fn ambiguous_inputs(random: &mut Random) -> Vec<Input> {
     let mut inputs = Vec::new();
-    for size in [
-        (4, 3, 9),
-        (9, 4, 0),
-        (30, 8, 77),
-        (60, 15, 254),
-        (255, 63, 40),
-        (255, 64, 128),
-    ] {
-        let (n, r, b) = size;
+    for size in NEIGHBOUR_SIZES {
+        let (n, r, _) = size;
         let h = r / 2;
         for limit in [h, h + 1] {
             let profile = profile(size, limit, 1);
             let mut cells = codeword(&profile, random);
-            let (start, factor) = (random.between(0, n - r - 1), random.nonzero());
-            let difference: Vec<u8> = generator(b, r).into_iter().map(|x| gf::product(factor, x)).collect();
+            let (start, difference) = neighbour(size, random);
             for i in 0..=h {
                 cells[start + i] ^= difference[i];
             }

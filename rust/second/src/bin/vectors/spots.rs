@@ -1,11 +1,10 @@
 //! Vectors for spot mode: blocks, and sheets read in it.
 
-use crate::blocks::{codeword, damage, profile, refused_inputs, Input, Size, UNTOUCHED};
+use crate::blocks::{codeword, damage, neighbour, profile, refused_inputs, Input, Size, NEIGHBOUR_SIZES, UNTOUCHED};
 use crate::sheets::{self, read_vector_in, PROFILES};
 use crate::vector::{answer, profile_fields, Field, Vector};
-use second::generator::generator;
 use second::random::Random;
-use second::{cases, gf, sheet, spots, Changes, Mode, Profile};
+use second::{cases, sheet, spots, Changes, Mode, Profile};
 
 /// The sizes of the random blocks.
 const SIZES: [Size; 17] = [
@@ -69,21 +68,14 @@ fn damaged_inputs((n, r, b): Size, random: &mut Random) -> Vec<Input> {
 /// h+1 cells away from two if it is odd.
 fn between_inputs(random: &mut Random) -> Vec<Input> {
     let mut inputs = Vec::new();
-    for size in [
-        (4, 3, 9),
-        (9, 4, 0),
-        (30, 8, 77),
-        (60, 15, 254),
-        (255, 63, 40),
-        (255, 64, 128),
-    ] {
-        let (n, r, b) = size;
+    for size in NEIGHBOUR_SIZES {
+        let (n, r, _) = size;
         for count in [r / 2, r / 2 + 1] {
             let profile = profile(size, random.between(0, r - 1), 1);
             let mut cells = codeword(&profile, random);
-            let (start, factor) = (random.between(0, n - r - 1), random.nonzero());
-            for (cell, coefficient) in cells[start..].iter_mut().zip(generator(b, r)).take(count) {
-                *cell ^= gf::product(factor, coefficient);
+            let (start, difference) = neighbour(size, random);
+            for (cell, other) in cells[start..].iter_mut().zip(difference).take(count) {
+                *cell ^= other;
             }
             inputs.push((profile, cells, n));
         }
