@@ -28,7 +28,8 @@ pub fn product(a: u8, b: u8) -> u8 {
 
 /// The inverse by search; zero has none.
 pub fn inverse(a: u8) -> Option<u8> {
-    (1..=255).find(|&x| product(a, x) == 1)
+    let multiples = &products()[usize::from(a)];
+    (1..=255).find(|&x| multiples[usize::from(x)] == 1)
 }
 
 /// All products, `products()[a][b]`, computed once by `product`.

@@ -36,8 +36,8 @@ impl Elimination {
         }
     }
 
-    /// Gives the next column of A. If it depends on those before it: the factors with which all given columns add up to zero, its own being 1.
-    pub fn add_column(&mut self, column: &[u8]) -> Option<Vec<u8>> {
+    /// Gives the next column of A.
+    pub fn add_column(&mut self, column: &[u8]) {
         assert_eq!(column.len(), self.rows);
         let mut vector = column.to_vec();
         vector.resize(self.target.len(), 0);
@@ -47,7 +47,7 @@ impl Elimination {
             clear(*row, pivot, &mut vector);
         }
         let Some(row) = vector[..self.rows].iter().position(|&x| x != 0) else {
-            return Some(vector[self.rows..self.rows + self.given].to_vec());
+            return;
         };
         let factor = inverse(vector[row]).expect("a pivot is not zero");
         for x in &mut vector {
@@ -55,7 +55,6 @@ impl Elimination {
         }
         clear(row, &vector, &mut self.target);
         self.pivots.push((row, vector));
-        None
     }
 
     /// The solutions with the columns given so far.
@@ -71,11 +70,14 @@ impl Elimination {
     }
 }
 
-/// Factors, the last of them 1, with which the first so many columns add up to zero; none if the columns are independent.
-pub fn dependence(columns: &[Vec<u8>]) -> Option<Vec<u8>> {
-    let rows = columns.first().map_or(0, Vec::len);
+/// The rank of a matrix, given by its columns.
+pub fn rank(columns: &[&[u8]]) -> usize {
+    let rows = columns.first().map_or(0, |column| column.len());
     let mut system = Elimination::new(&vec![0; rows], columns.len());
-    columns.iter().find_map(|column| system.add_column(column))
+    for column in columns {
+        system.add_column(column);
+    }
+    system.pivots.len()
 }
 
 /// Adds the multiple of the pivot column that makes the vector's entry in this row zero.
@@ -132,20 +134,23 @@ mod tests {
         }
     }
 
-    /// Columns drawn from a space of fewer dimensions than there are columns, and independent ones.
+    /// Columns drawn from a space of so many dimensions, one more than it has: each is independent of the others until there are as many.
     #[test]
-    fn a_dependence_adds_up_to_zero() {
+    fn a_rank_is_that_of_the_space() {
         let mut random = Random::new(13);
-        for rank in 1..12 {
-            let base: Vec<Vec<u8>> = (0..rank).map(|_| random.bytes(rank + 3)).collect();
-            assert_eq!(dependence(&base), None);
-            let drawn: Vec<Vec<u8>> = (0..=rank).map(|_| apply(&base, &random.bytes(rank))).collect();
-            let factors = dependence(&drawn).expect("one column more than the dimension");
-            assert_eq!(factors.last(), Some(&1));
-            assert_eq!(apply(&drawn[..factors.len()], &factors), vec![0; rank + 3]);
+        for dimension in 1..12 {
+            let base: Vec<Vec<u8>> = (0..dimension).map(|_| random.bytes(dimension + 3)).collect();
+            let drawn: Vec<Vec<u8>> = (0..=dimension)
+                .map(|_| apply(&base, &random.bytes(dimension)))
+                .collect();
+            for count in 0..=drawn.len() {
+                let columns: Vec<&[u8]> = drawn[..count].iter().map(Vec::as_slice).collect();
+                assert_eq!(rank(&columns), count.min(dimension));
+            }
         }
-        assert_eq!(dependence(&[vec![0, 0]]), Some(vec![1]));
-        assert_eq!(dependence(&[vec![3, 5], vec![6, 10]]), Some(vec![2, 1]));
+        assert_eq!(rank(&[&[0, 0]]), 0);
+        assert_eq!(rank(&[&[3, 5], &[6, 10]]), 1);
+        assert_eq!(rank(&[&[3, 5], &[6, 11]]), 2);
     }
 
     #[test]

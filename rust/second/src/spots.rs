@@ -1,13 +1,13 @@
 //! Document 02, Note 1: a block goes to the codeword that differs from it in the fewest cells, up to h cells anywhere.
-//! Two linear systems find it. The first is for the coefficients of a polynomial E of degree at most h, not zero, such that the block with
-//! each cell j multiplied by E(α^j) has its first r−h syndromes zero. If a codeword differs in at most h cells, the product of the (x−α^j) for
-//! these cells j is one such E; and every such E is zero at each of these α^j, since what it leaves of the errors, at most h cells, has its first
-//! r−h syndromes zero, and r−h cells are independent in these. So all wrong cells are among the zeros of one E, which are at most h, and the second
-//! system, that of the cells at its zeros against the r syndromes, says what to add to them.
+//! Ranks tell which cells are wrong. If t cells are, at most h, put the syndromes into a square of h rows, each of which begins one syndrome later than the one
+//! above it. Each wrong cell adds to the square a column of powers times a row of powers; these t are independent, so the rank is t. Now take for each
+//! two neighbouring syndromes the later one plus α^j times the earlier one. That multiplies the error at each cell e by α^e+α^j: it removes the one at cell j
+//! and keeps the others. So the square of these numbers has a smaller rank exactly if cell j is wrong. What to add to the wrong cells is the
+//! solution of their columns against the syndromes. Where more than h cells lower the rank, or there is no solution, no codeword is within h cells.
 
 use crate::block::{check_lengths, is_codeword, syndromes, Profile};
 use crate::gf::{power, product};
-use crate::linear::{dependence, solve, Solutions};
+use crate::linear::{rank, solve, Solutions};
 use crate::refusal::{refuse, Refusal, NO_CODEWORD_NEAR};
 
 /// The cells changed in a block: how many, and the lowest of them, 0 and 0 for a clean block.
@@ -42,10 +42,10 @@ pub fn correct(profile: &Profile, read: &[u8], corrected: &mut [u8]) -> Result<C
 /// The codeword within h cells, if there is one.
 fn nearest(profile: &Profile, read: &[u8]) -> Option<Vec<u8>> {
     let target = syndromes(profile, read);
-    let polynomial = vanishing(profile, &target)?;
-    let cells: Vec<usize> = (0..profile.n)
-        .filter(|&cell| value(&polynomial, power(cell)) == 0)
-        .collect();
+    let cells = wrong_cells(profile, &target);
+    if cells.len() > profile.h() {
+        return None;
+    }
     let columns: Vec<Vec<u8>> = cells.iter().map(|&cell| profile.column(cell)).collect();
     match solve(&columns, &target) {
         Solutions::None => None,
@@ -54,20 +54,27 @@ fn nearest(profile: &Profile, read: &[u8]) -> Option<Vec<u8>> {
     }
 }
 
-/// The coefficients of an E, lowest first. A cell multiplied by α^(jm) has for its first syndromes those from m on of the cell itself; so
-/// the column of coefficient m is the syndromes from m on.
-fn vanishing(profile: &Profile, syndromes: &[u8]) -> Option<Vec<u8>> {
-    let equations = profile.r - profile.h();
-    let columns: Vec<Vec<u8>> = syndromes.windows(equations).map(<[u8]>::to_vec).collect();
-    dependence(&columns)
+/// The cells whose removal lowers the rank: the wrong cells, if these are at most h.
+fn wrong_cells(profile: &Profile, syndromes: &[u8]) -> Vec<usize> {
+    let whole = square_rank(profile.h(), syndromes);
+    (0..profile.n)
+        .filter(|&cell| square_rank(profile.h(), &removing(syndromes, cell)) < whole)
+        .collect()
 }
 
-/// The value of a polynomial, lowest coefficient first.
-fn value(polynomial: &[u8], x: u8) -> u8 {
-    polynomial
-        .iter()
-        .rev()
-        .fold(0, |sum, &coefficient| product(sum, x) ^ coefficient)
+/// The rank of the square whose rows are the first h runs of h numbers.
+fn square_rank(h: usize, numbers: &[u8]) -> usize {
+    let columns: Vec<&[u8]> = numbers.windows(h).take(h).collect();
+    rank(&columns)
+}
+
+/// Syndromes, one fewer, to which an error at this cell adds nothing.
+fn removing(syndromes: &[u8], cell: usize) -> Vec<u8> {
+    let point = power(cell);
+    let pairs = syndromes.iter().zip(&syndromes[1..]);
+    pairs
+        .map(|(&earlier, &later)| later ^ product(point, earlier))
+        .collect()
 }
 
 /// The read cells with the errors taken off from these cells.
