@@ -1,8 +1,8 @@
--- The code of document 01, "The field and the block": generator, syndromes, codewords, remainder, and in how many cells two
--- words differ. Clauses B3, B5, B11. The definitions are for every b, r and n; ranges are set where a theorem needs them.
+-- The code of document 01, "The field and the block": generator, syndromes, codewords, remainder, in how many cells two
+-- words differ, and which codewords are near. Clauses B3, B5, B11. The definitions are for every b, r and n; ranges are set where a theorem needs them.
 use mathlib.Core.Path.{_≡_}
 use mathlib.Core.List.{List, [], _∷_}
-use Prim.Native.Nat.{ℕ, zero, suc, _+_, _-_}
+use Prim.Native.Nat.{ℕ, zero, suc, _+_, _-_, _≤_}
 use lib.Dec.{eqb}
 use lib.ListN.{length, getD, take, replicate}
 use Rattle.lists.specs.Choice.{pick}
@@ -42,3 +42,8 @@ unfoldable pub distance : List ℕ → List ℕ → ℕ
 distance [] d = 0
 distance (x ∷ c) [] = 0
 distance (x ∷ c) (y ∷ d) = pick (eqb x y) 0 1 + distance c d
+
+-- c is a codeword and differs from y in at most h cells
+pub record IsNear (n r b h : ℕ) (y c : List ℕ) : Type 0 where
+  pub word : Codeword n r b c
+  pub within : distance y c ≤ h

@@ -7,6 +7,7 @@ use Rattle.sheet.specs.declared.Mode.the-variants.{Spots}
 use Rattle.sheet.proofs.Theorems.{read-results}
 use Rattle.sheet.proofs.Refusals.{sheet-refusals}
 use Rattle.sheet.proofs.Promise.{sheet-promise}
+use Rattle.sheet.proofs.LimitFree.{sheet-limit-free}
 use Rattle.plot.proofs.Sheets.{same-after-errors}
 use Rattle.demands.specs.Requests.{Request1, Requests}
 
@@ -14,7 +15,8 @@ request-1 : Request1
 request-1 = record {
   nearest = corrected-cells-iff;
   reading = read-results Spots;
-  result = λ p y t j c o. (o .count, o .lowest, λ e. (sym (o .count) ∙ ap (distance y) e ∙ distance-self y, o .lowest .clean e));
+  result = λ p y out t j c v h a.
+      let o = corrected-cells-iff p y out t j c v h .0 a in (sym (o .count), o .lowest, λ e. (sym (o .count) ∙ ap (distance y) e ∙ distance-self y, o .lowest .clean e));
   no-tie = no-tie;
   back = near-comes-back;
   sheet-back = λ p m cells sheet scratch out v h c f b. let q = sheet-promise p m cells v h c .few-errors sheet scratch out f b in (q .number, q .payload);
@@ -23,6 +25,7 @@ request-1 = record {
   refusals = spot-refusals;
   sheet-refusals = λ p. sheet-refusals p .reads Spots;
   limit = limit-free;
+  sheet-limit = sheet-limit-free;
 }
 
 pub requests : Requests

@@ -7,13 +7,14 @@ use lib.ListN.{length}
 use Rattle.code.specs.Code.{distance}
 use Rattle.profile.specs.Profile.{InRange}
 use Rattle.profile.specs.declared.Profile.{Profile}
-use Rattle.spots.specs.Nearest.{LowestChanged, NearestWord}
-use Rattle.spots.specs.Promises.{CorrectedCellsIff, TooManyErrorsIff, NoTie, NearComesBack, LimitFree, SpotRefusals}
+use Rattle.block.specs.Promises.{LentBlock}
+use Rattle.spots.specs.Nearest.{LowestChanged}
+use Rattle.spots.specs.Promises.{CorrectsCells, CorrectedCellsIff, TooManyErrorsIff, NoTie, NearComesBack, LimitFree, SpotRefusals}
 use Rattle.sheet.specs.declared.Mode.the-variants.{Spots}
 use Rattle.sheet.specs.Sheet.{writeSheetLeaves, readAnswer, readPayload}
 use Rattle.sheet.specs.Numbers.{readingNumber}
 use Rattle.sheet.specs.Buffers.{Payload, Lent}
-use Rattle.sheet.specs.Theorems.{Results, ReadRefusals}
+use Rattle.sheet.specs.Theorems.{Results, ReadRefusals, SheetLimitFree}
 use Rattle.sheet.specs.Promise.{FewErrors}
 use Rattle.plot.specs.Sheets.{SameAfterErrors}
 
@@ -24,7 +25,8 @@ pub record Request1 : Type 0 where
   pub nearest : CorrectedCellsIff
   pub reading : (p : Profile) (sheet scratch out : List ℕ) → InRange p → Lent p sheet scratch out → Results Spots p sheet scratch out
   -- "The result is the number of cells changed and the lowest of them (0 if clean)."
-  pub result : (p : Profile) (y : List ℕ) (t j : ℕ) (c : List ℕ) → NearestWord p y t j c → (distance y c ≡ t) × LowestChanged p y j c × (c ≡ y → (t ≡ 0) × (j ≡ 0))
+  pub result : (p : Profile) (y out : List ℕ) (t j : ℕ) (c : List ℕ) → InRange p → LentBlock p y out → CorrectsCells p y out t j c
+      → (t ≡ distance y c) × LowestChanged p y j c × (c ≡ y → (t ≡ 0) × (j ≡ 0))
   -- "A tie can't occur here, and that should be shown."
   pub no-tie : NoTie
   -- "The user's wish is that any h spots a block come back.": of one block, of a sheet, and of what is asked of its payload
@@ -40,6 +42,7 @@ pub record Request1 : Type 0 where
   pub sheet-refusals : (p : Profile) (sheet scratch out : List ℕ) → ReadRefusals Spots p sheet scratch out
   -- what the note leaves open, as decided: L has to be in its range and has no other effect
   pub limit : LimitFree
+  pub sheet-limit : SheetLimitFree
 
 pub record Requests : Type 0 where
   pub first : Request1

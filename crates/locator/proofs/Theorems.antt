@@ -15,7 +15,7 @@ use Rattle.field.proofs.Sum.{add-self, add-eq}
 use Rattle.field.proofs.Product.{mul-zero, zero-mul}
 use Rattle.lists.specs.Bytes.{Bytes}
 use Rattle.code.specs.Poly.{eval, padd}
-use Rattle.code.specs.Code.{Codeword, syndrome, distance}
+use Rattle.code.specs.Code.{Codeword, syndrome, distance, IsNear}
 use Rattle.code.proofs.Poly.{getD-padd, padd-length, padd-bytes}
 use Rattle.code.proofs.Distance.{Zero, weight, distance-weight}
 use Rattle.code.proofs.Shifted.{distance-triangle}
@@ -25,7 +25,7 @@ use Rattle.erasure.proofs.Weigh.{weigh, weigh-at, cells-zero}
 use Rattle.erasure.proofs.Fill.{Within, syn-of, syndromes-length, syndromes-at, syndromes-bytes, error-bytes, error-within, error-first}
 use Rattle.erasure.proofs.Weights.{weight-distance, within-weight, within-full}
 use Rattle.erasure.proofs.Theorems.{difference-syndrome, difference-within, fills-is, fills-back, passed, filled-length}
-use Rattle.locator.specs.Locator.{Near, Recursion, massey, mirrored, locator, rootsFrom, locations, isLocated, AllLocated, candidate}
+use Rattle.locator.specs.Locator.{Recursion, massey, mirrored, locator, rootsFrom, locations, isLocated, AllLocated, candidate}
 use Rattle.locator.specs.Theorems.{NearExact, NearestOnly, Changed, ChangedCells, LocatedTest}
 use Rattle.locator.proofs.Recursion.{Reads, Sound, reads-at}
 use Rattle.locator.proofs.Run.{readBy, kept-all, read-length, read-at, read-bytes, read-syn, locates, reads-back}
@@ -55,31 +55,31 @@ module _ (n r b h M : ℕ) (y : List ℕ) (hr : r < n) (hn : n ≤ 255) (ly : le
   candidate-is = ap (λ (m : ℕ). filledWord b r (rootsFrom (locator k) m 0) y) ly
 
   -- a codeword that is near
-  module _ (c : List ℕ) (N : Near n r b h y c) where
+  module _ (c : List ℕ) (N : IsNear n r b h y c) where
     abbrev e : List ℕ
     e = padd y c
 
     lc : length c ≡ n
-    lc = N .codeword .cells
+    lc = N .word .cells
 
     le : length e ≡ n
     le = padd-length y c (omega arith) ∙ ly
 
     he : Bytes e
-    he = padd-bytes y c hy (N .codeword .bytes)
+    he = padd-bytes y c hy (N .word .bytes)
 
     light : weight e ≤ h
-    light = omega (arith, distance-weight y c (ly ∙ sym lc), N .near)
+    light = omega (arith, distance-weight y c (ly ∙ sym lc), N .within)
 
     reads : Reads b T e
-    reads = read-syn b s [] e (syn-of b r y e (difference-syndrome n r b y c (N .codeword))) tt
+    reads = read-syn b s [] e (syn-of b r y e (difference-syndrome n r b y c (N .word))) tt
 
     sound : Sound h b T k
     sound = ⊎-elim (λ g. g) (λ d. absurd (let z : suc h ≤ weight e = d .none e he (omega (arith, le)) reads in omega (arith, light))) (kept-all M h b s hM)
 
     fills : Fills n r b E y c
     fills = record {
-      codeword = N .codeword;
+      codeword = N .word;
       agree = λ j l t. add-eq (getD y j 0) (getD c j 0) (sym (getD-padd y c j) ∙ ⊎-elim (λ z. z)
           (λ z. absurd (true-false (roots-all (locator k) n 0 j zero-le (omega arith)
           (locates h b T k e sound he (omega (arith, le)) reads light (omega (arith, lT)) j z)) t)) (zero-or (getD e j 0)));
@@ -154,29 +154,29 @@ module _ (n r b h M : ℕ) (y : List ℕ) (hr : r < n) (hn : n ≤ 255) (ly : le
     located-fills : Fills n r b E y (filledWord b r E y)
     located-fills = fills-back n r b E y hr hn ly hy places (omega arith) (filledWord b r E y) (refl, codeword)
 
-    located-near : Near n r b h y (filledWord b r E y)
+    located-near : IsNear n r b h y (filledWord b r E y)
     located-near =
         let lf : length (filledWord b r E y) ≡ n = filled-length n r b E y hr hn ly hy places (omega arith) in
         record {
-          codeword = codeword;
-          near = omega (arith, weight-distance y (filledWord b r E y) (ly ∙ sym lf), within-weight E (padd y (filledWord b r E y)) (difference-within n E y (filledWord b r E y) ly lf (located-fills .agree)));
+          word = codeword;
+          within = omega (arith, weight-distance y (filledWord b r E y) (ly ∙ sym lf), within-weight E (padd y (filledWord b r E y)) (difference-within n E y (filledWord b r E y) ly lf (located-fills .agree)));
         }
 
-  pub located-is-near : AllLocated M h n s → Near n r b h y (candidate b r M y)
+  pub located-is-near : AllLocated M h n s → IsNear n r b h y (candidate b r M y)
   unfolding locations
-  located-is-near g = subst (Near n r b h y) (sym candidate-is) (located-near (g .0) (g .1))
+  located-is-near g = subst (IsNear n r b h y) (sym candidate-is) (located-near (g .0) (g .1))
 
 pub near-exact : NearExact
 near-exact n r b h M y c hr hn ly hy hh hM = (
   λ N. (near-located n r b h M y hr hn ly hy hh hM c N, near-is n r b h M y hr hn ly hy hh hM c N),
-  λ g. subst (Near n r b h y) (sym (g .1)) (located-is-near n r b h M y hr hn ly hy hh hM (g .0)),
+  λ g. subst (IsNear n r b h y) (sym (g .1)) (located-is-near n r b h M y hr hn ly hy hh hM (g .0)),
 )
 
 pub nearest-only : NearestOnly
 nearest-only n r b h y c d hn ly hh N k ne =
     ⊎-elim (λ l. l)
-    (λ l. absurd (ne (sym (minimum-distance n r b c d hn (N .codeword) k
-    (omega (arith, N .near, distance-triangle y c d (N .codeword .cells ∙ sym ly) (k .cells ∙ sym ly)))))))
+    (λ l. absurd (ne (sym (minimum-distance n r b c d hn (N .word) k
+    (omega (arith, N .within, distance-triangle y c d (N .word .cells ∙ sym ly) (k .cells ∙ sym ly)))))))
     (lt-or-ge (distance y c) (distance y d))
 
 pub changed-cells : ChangedCells

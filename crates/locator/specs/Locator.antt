@@ -10,15 +10,8 @@ use lib.ListN.{length, getD, take, replicate}
 use Rattle.lists.specs.Choice.{pick, both}
 use Rattle.field.specs.Field.{alpha}
 use Rattle.code.specs.Poly.{eval, padd, pscale}
-use Rattle.code.specs.Code.{Codeword, distance}
 use Rattle.products.specs.Products.{dot}
 use Rattle.erasure.specs.Erasure.{syndromes, filledWord}
-
--- "the codeword that differs in the fewest cells, up to h cells anywhere" (document 02, Note 1): c is a codeword that differs from y in at
--- most h cells; that no other is as near is NearestOnly in Theorems.antt
-pub record Near (n r b h : ℕ) (y c : List ℕ) : Type 0 where
-  pub codeword : Codeword n r b c
-  pub near : distance y c ≤ h
 
 -- ---- Massey's recursion
 

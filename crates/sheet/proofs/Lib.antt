@@ -11,3 +11,4 @@ pub mod Promise
 pub mod Entry
 pub mod Steps
 pub mod Accepted
+pub mod LimitFree

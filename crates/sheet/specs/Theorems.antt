@@ -12,6 +12,7 @@ use Rattle.block.specs.Runs.{Word}
 use Rattle.profile.specs.Refusals.{EarlyRefusals}
 use Rattle.profile.specs.declared.Profile.{Profile}
 use Rattle.sheet.specs.declared.Mode.{Mode}
+use Rattle.sheet.specs.declared.Mode.the-variants.{Spots}
 use Rattle.sheet.specs.Modes.{GoesTo, BlockRefusedBy}
 use Rattle.sheet.specs.Sheet.{interleave, blockOf, joined, messageOf, writeSheetAnswer, writeSheetLeaves, readBlock, differ, readAnswer, readScratch, readPayload}
 use Rattle.sheet.specs.Numbers.{readingNumber, readingPlace, readingChanged}
@@ -118,3 +119,10 @@ pub record ReadRefusals (mode : Mode) (p : Profile) (sheet scratch out : List �
 pub record SheetRefusals (p : Profile) : Type 0 where
   pub writes : (m cells : List ℕ) → WriteSheetRefusals p m cells
   pub reads : (mode : Mode) (sheet scratch out : List ℕ) → ReadRefusals mode p sheet scratch out
+
+-- ---- 5. document 02, Note 1, as decided: in spot mode L has to be in its range and has no other effect
+
+abbrev pub SheetLimitFree : Type 0
+SheetLimitFree = (p q : Profile) (sheet scratch out : List ℕ) → InRange p → InRange q → p .n ≡ q .n → p .r ≡ q .r → p .b ≡ q .b → p .depth ≡ q .depth
+    → (readAnswer Spots p sheet scratch out ≡ readAnswer Spots q sheet scratch out) × (readScratch Spots p sheet scratch out ≡ readScratch Spots q sheet scratch out)
+    × (readPayload Spots p sheet scratch out ≡ readPayload Spots q sheet scratch out)

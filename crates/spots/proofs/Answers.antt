@@ -31,6 +31,16 @@ spot-of P none some p y = decided (readSyndromes p y)
         unfold spotDecided in
         pick-of P (isLocated 64 (half p) (p .n) s) (CorrectedCells (length (locations 64 (p .n) s)) (getD (locations 64 (p .n) s) 0 0)) TooManyErrors (some _ _) none
 
+-- verdict and codeword read n, r and b of the profile, and nothing else
+module _ (p q : Profile) (y : List ℕ) (en : p .n ≡ q .n) (er : p .r ≡ q .r) (eb : p .b ≡ q .b) where
+  pub same-verdict : spotVerdict p y ≡ spotVerdict q y
+  unfolding spotVerdict spotDecided readSyndromes
+  same-verdict = rw (en, er, eb)
+
+  pub same-word : spotWord p y ≡ spotWord q y
+  unfolding spotWord
+  same-word = rw (er, eb)
+
 module _ (p : Profile) (y out : List ℕ) where
   -- after a refusal the second buffer is as it was
   pub spot-kept : verdictNumber (spotAnswer p y out) ≢ 0 → spotLeaves p y out ≡ out

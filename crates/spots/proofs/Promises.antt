@@ -22,12 +22,12 @@ use Rattle.block.proofs.NumberLaws.{no-values}
 use Rattle.profile.specs.declared.Profile.{Profile}
 use Rattle.block.specs.declared.Verdict.{Verdict}
 use Rattle.block.specs.declared.Verdict.the-variants.{BadProfile, WrongLength, CorrectedCells}
-use Rattle.spots.specs.Spots.{spotDecided, readSyndromes, spotVerdict, spotWord, spotAnswer, spotLeaves}
+use Rattle.spots.specs.Spots.{spotVerdict, spotWord, spotAnswer, spotLeaves}
 use Rattle.spots.specs.Nearest.{Near, NoneNear, NearestWord}
 use Rattle.spots.specs.Promises.{CorrectsCells, CorrectedCellsIff, TooManyErrorsIff, NoTie, NearComesBack, LimitFree, SpotRefusals}
 use Rattle.spots.proofs.Words.{word-or-not}
 use Rattle.spots.proofs.Verdicts.{spot-none, spot-one, spot-some, spot-near}
-use Rattle.spots.proofs.Answers.{spot-of, spot-kept, spot-answer, spot-leaves}
+use Rattle.spots.proofs.Answers.{spot-of, same-verdict, same-word, spot-kept, spot-answer, spot-leaves}
 
 module _ (p : Profile) (y out : List ℕ) (v : InRange p) (h : LentBlock p y out) where
   is-verdict : spotAnswer p y out ≡ spotVerdict p y
@@ -77,7 +77,7 @@ near-comes-back p y out c v h k =
 pub no-tie : NoTie
 no-tie p y c d v e j k =
     let closer : (a b : List ℕ) → Near p y a → Near p y b → b ≢ a → distance y a < distance y b =
-    λ a b l m n. nearest-only (p .n) (p .r) (p .b) (half p) y a b (v .n-most) e (omega arith) (record { codeword = l .word; near = l .within }) (m .word) n in
+    λ a b l m n. nearest-only (p .n) (p .r) (p .b) (half p) y a b (v .n-most) e (omega arith) l (m .word) n in
     ⊎-elim (λ q. q) (λ n. absurd (let z : distance y c < distance y d = closer c d j k (λ q. n (sym q)) in let w : distance y d < distance y c = closer d c k j n in omega arith))
     (word-or-not c d (j .word .cells ∙ sym (k .word .cells)))
 
@@ -88,21 +88,13 @@ module _ (p q : Profile) (y out : List ℕ) (v : InRange p) (w : InRange q) (en 
   unfolding correctFits
   same-fits = rw en
 
-  same-verdict : spotVerdict p y ≡ spotVerdict q y
-  unfolding spotVerdict spotDecided readSyndromes
-  same-verdict = rw (en, er, eb)
-
-  same-word : spotWord p y ≡ spotWord q y
-  unfolding spotWord
-  same-word = rw (er, eb)
-
   same-answer : spotAnswer p y out ≡ spotAnswer q y out
   unfolding spotAnswer refusing
-  same-answer = rw (in-range p .1 v, in-range q .1 w, same-fits, same-verdict)
+  same-answer = rw (in-range p .1 v, in-range q .1 w, same-fits, same-verdict p q y en er eb)
 
   same-leaves : spotLeaves p y out ≡ spotLeaves q y out
   unfolding spotLeaves
-  same-leaves = rw (same-answer, same-word)
+  same-leaves = rw (same-answer, same-word p q y en er eb)
 
 pub limit-free : LimitFree
 limit-free p q y out v w en er eb = (same-answer p q y out v w en er eb, same-leaves p q y out v w en er eb)

@@ -13,8 +13,7 @@ use Rattle.code.proofs.Distance.{distance-self, distance-same}
 use Rattle.erasure.specs.Erasure.{among, DistinctPlaces, syndromes}
 use Rattle.erasure.proofs.Theorems.{fill-remainder}
 use Rattle.erasure.proofs.Roots.{among-here}
-use Rattle.locator.specs.Locator.{locations, isLocated}
-use Rattle.locator.specs.Locator as locating
+use Rattle.locator.specs.Locator.{locations, isLocated, AllLocated}
 use Rattle.locator.specs.Theorems.{Changed}
 use Rattle.locator.proofs.Theorems.{near-exact, nearest-only, changed-cells, located-test}
 use Rattle.locator.proofs.Roots.{locations-places}
@@ -62,17 +61,10 @@ module _ (p : Profile) (y : List ℕ) (v : InRange p) (h : Cells p y) where
   verdict-bad : fine ≡ false → spotVerdict p y ≡ TooManyErrors
   verdict-bad t = by-syndromes ∙ (unfold spotDecided in rw t)
 
-  near-there : (c : List ℕ) → Near p y c → locating.Near (p .n) (p .r) (p .b) (half p) y c
-  near-there c k = record { codeword = k .word; near = k .within }
-
-  near-back : (c : List ℕ) → locating.Near (p .n) (p .r) (p .b) (half p) y c → Near p y c
-  near-back c k = record { word = k .codeword; within = k .near }
-
-  exact : (c : List ℕ) → Near p y c ↔ (locating.AllLocated 64 (half p) (p .n) s × (c ≡ spotWord p y))
+  exact : (c : List ℕ) → Near p y c ↔ (AllLocated 64 (half p) (p .n) s × (c ≡ spotWord p y))
   unfolding spotWord
   exact c =
-      let q = near-exact (p .n) (p .r) (p .b) (half p) 64 y c (v .r-below) (v .n-most) (h .count) (h .bytes) twice-half half-below in
-      (λ k. q .0 (near-there c k), λ z. near-back c (q .1 z))
+      near-exact (p .n) (p .r) (p .b) (half p) 64 y c (v .r-below) (v .n-most) (h .count) (h .bytes) twice-half half-below
 
   fine-near : fine ≡ true → Near p y (spotWord p y)
   fine-near t = exact (spotWord p y) .1 (located-test 64 (half p) (p .n) s .0 t, refl)
@@ -83,7 +75,7 @@ module _ (p : Profile) (y : List ℕ) (v : InRange p) (h : Cells p y) where
   -- the near codeword: its cells
   module _ (c : List ℕ) (k : Near p y c) where
     changed : Changed (p .n) (half p) E y c
-    changed = changed-cells (p .n) (p .r) (p .b) (half p) 64 y c (v .r-below) (v .n-most) (h .count) (h .bytes) twice-half half-below (near-there c k)
+    changed = changed-cells (p .n) (p .r) (p .b) (half p) 64 y c (v .r-below) (v .n-most) (h .count) (h .bytes) twice-half half-below k
 
     same-length : length c ≡ length y
     same-length = k .word .cells ∙ sym (h .count)
@@ -127,7 +119,7 @@ module _ (p : Profile) (y : List ℕ) (v : InRange p) (h : Cells p y) where
       lowest = lowest;
       others = λ d w n.
           subst (λ (t : ℕ). t < distance y d) (changed .count)
-          (nearest-only (p .n) (p .r) (p .b) (half p) y c d (v .n-most) (h .count) twice-half (near-there c k) w n);
+          (nearest-only (p .n) (p .r) (p .b) (half p) y c d (v .n-most) (h .count) twice-half k w n);
     }
 
   -- a codeword that is the nearest is near

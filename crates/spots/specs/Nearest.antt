@@ -5,16 +5,15 @@ use mathlib.Core.Logic.{_≢_}
 use mathlib.Core.List.{List}
 use Prim.Native.Nat.{ℕ, _≤_, _<_}
 use lib.ListN.{getD}
-use Rattle.code.specs.Code.{distance}
+use Rattle.code.specs.Code.{distance, IsNear}
 use Rattle.profile.specs.Profile.{half}
 use Rattle.block.specs.Runs.{Word}
 use Rattle.profile.specs.declared.Profile.{Profile}
 
 module _ (p : Profile) (y : List ℕ) where
   -- a codeword that differs from the read cells in "up to h cells anywhere"
-  pub record Near (c : List ℕ) : Type 0 where
-    pub word : Word p c
-    pub within : distance y c ≤ half p
+  abbrev pub Near : List ℕ → Type 0
+  Near c = IsNear (p .n) (p .r) (p .b) (half p) y c
 
   -- "no codeword is that near"
   abbrev pub NoneNear : Type 0
