@@ -2,8 +2,7 @@
 use mathlib.Core.Path.{_≡_, ap, _∙_}
 use mathlib.Core.List.{List}
 use Prim.Native.Nat.{ℕ}
-use Rattle.sheet.specs.declared.Mode.{Mode}
-use Rattle.sheet.specs.Promise.{Profile, SheetPromise, ReadsBack, readAnswer, readPayload, readingNumber}
+use Rattle.sheet.specs.Promise.{Mode, Profile, SheetPromise, ReadsBack, readAnswer, readPayload, readingNumber}
 use Rattle.sheet.proofs.Promise.{sheet-promise}
 use Rattle.plot.specs.Grammar.{reading}
 use Rattle.plot.specs.Answers.{located, asked}

@@ -4,9 +4,7 @@ use mathlib.Core.Path.{_≡_}
 use mathlib.Core.List.{List}
 use Prim.Native.Nat.{ℕ, _*_, _≤_}
 use lib.ListN.{length}
-use Rattle.sheet.specs.declared.Mode.{Mode}
-use Rattle.sheet.specs.declared.Mode.the-variants.{Burst, Spots}
-use Rattle.sheet.specs.Promise.{Profile, InRange, half, Payload, Lent, writeSheetLeaves, readAnswer, readPayload, readingNumber, readingChanged, Damaged, FewErrors}
+use Rattle.sheet.specs.Promise.{Mode, Burst, Spots, Profile, InRange, half, Payload, Lent, writeSheetLeaves, readAnswer, readPayload, readingNumber, readingChanged, Damaged, FewErrors}
 use Rattle.plot.specs.Layout.{Plot}
 use Rattle.plot.specs.Grammar.{Plots, reading}
 use Rattle.plot.specs.Answers.{located, asked}

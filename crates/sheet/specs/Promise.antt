@@ -7,13 +7,23 @@ use Prim.Native.Nat.{ℕ, _+_, _*_, _≤_, _<_}
 use lib.ListN.{length, getD}
 use Rattle.code.specs.Code.{distance}
 use Rattle.code.specs.Run.{Outside}
-use Rattle.sheet.specs.declared.Mode.{Mode}
-use Rattle.sheet.specs.declared.Mode.the-variants.{Burst, Spots}
+use Rattle.sheet.specs.declared.Mode as declared
+use Rattle.sheet.specs.declared.Mode.the-variants as modes
 pub use Rattle.profile.specs.Profile.{InRange, messageLength, half}
 pub use Rattle.profile.specs.declared.Profile.{Profile}
 pub use Rattle.sheet.specs.Sheet.{writeSheetLeaves, readBlock, readAnswer, readPayload}
 pub use Rattle.sheet.specs.Numbers.{readingNumber, readingChanged}
 pub use Rattle.sheet.specs.Buffers.{Payload, Sheet, Lent, differing}
+
+-- the reader's modes under names of this file, since `pub use` hands no enum of the crate itself to another crate
+abbrev pub Mode : Type 0
+Mode = declared.Mode
+
+abbrev pub Burst : Mode
+Burst = modes.Burst
+
+abbrev pub Spots : Mode
+Spots = modes.Spots
 
 -- the reader gives the payload m back byte for byte, with that many blocks changed, whatever stood in its buffers
 pub record ReadsBack (mode : Mode) (p : Profile) (m sheet : List ℕ) (changed : ℕ) (scratch out : List ℕ) : Type 0 where
