@@ -109,73 +109,88 @@ fn read_short() {
     print_reading(reading, &payload, &scratch);
 }
 
-fn main() {
-    write_small();
-    read_worked(
-        [
-            160,
-            152,
-            14,
-            0,
-            2,
-            6,
-            64,
-            4,
-            240,
-            212,
-            9,
-            0,
-            3,
-            5,
-            96,
-            6,
-            80,
-            76,
-            7,
-            0,
-            1,
-            3,
-            32,
-            2,
-        ],
+// The sheet of document 01, "The plot lister".
+fn written_cells() -> [u8; 24] {
+    [
+        160,
+        152,
+        14,
+        0,
+        2,
+        6,
+        64,
+        4,
+        240,
+        212,
+        9,
+        0,
+        3,
+        5,
+        96,
+        6,
+        80,
+        76,
+        7,
+        0,
         1,
-    );
-    read_worked(
-        [
-            0,
-            0,
-            0,
-            0,
-            0,
-            0,
-            0,
-            0,
-            240,
-            212,
-            9,
-            0,
-            3,
-            5,
-            96,
-            6,
-            80,
-            76,
-            7,
-            0,
-            1,
-            3,
-            32,
-            2,
-        ],
+        3,
+        32,
+        2,
+    ]
+}
+
+// The same with its first eight cells lost.
+fn scratched_cells() -> [u8; 24] {
+    [
+        0,
+        0,
+        0,
+        0,
+        0,
+        0,
+        0,
+        0,
+        240,
+        212,
+        9,
+        0,
+        3,
+        5,
+        96,
+        6,
+        80,
+        76,
+        7,
+        0,
         1,
-    );
-    // 8 14 7 1, and 8 14 0 0, which is refused.
-    let refused = [8u8, 8, 14, 14, 7, 0, 1, 0];
-    read_small(Mode::Burst, refused, 1);
-    read_small(Mode::Burst, refused, 2);
-    read_small(Mode::Burst, refused, 3);
+        3,
+        32,
+        2,
+    ]
+}
+
+// 8 14 7 1, and 8 14 0 0, which is refused.
+fn refused_cells() -> [u8; 8] {
+    [8, 8, 14, 14, 7, 0, 1, 0]
+}
+
+fn read_burst() {
+    read_worked(written_cells(), 1);
+    read_worked(scratched_cells(), 1);
+    read_small(Mode::Burst, refused_cells(), 1);
+    read_small(Mode::Burst, refused_cells(), 2);
+    read_small(Mode::Burst, refused_cells(), 3);
     read_short();
+}
+
+fn read_spots() {
     // 8 14 7 1 and 0 0 0 0, with one cell of each changed.
     read_small(Mode::Spots, [9, 0, 14, 0, 7, 0, 1, 5], 0);
-    read_small(Mode::Spots, refused, 2);
+    read_small(Mode::Spots, refused_cells(), 2);
+}
+
+fn main() {
+    write_small();
+    read_burst();
+    read_spots();
 }
