@@ -1,12 +1,11 @@
 -- The theorems of specs/Theorems.antt, cell by cell.
-use mathlib.Core.Path.{refl, sym, ap, ap₂}
+use mathlib.Core.Path.{refl, ap}
 use mathlib.Core.List.{List, [], _∷_}
 use Prim.Native.Nat.{ℕ}
 use Rattle.field.specs.Field.{add, mul}
-use Rattle.field.proofs.Power.{inverse-power}
 use Rattle.code.specs.Poly.{eval, padd}
-use Rattle.products.specs.Products.{times, total, dot, evals, powers}
-use Rattle.products.specs.Theorems.{DotTimes, EvalsStep, PowersInverse}
+use Rattle.products.specs.Products.{times, total, dot, evals}
+use Rattle.products.specs.Theorems.{DotTimes, EvalsStep}
 
 pub dot-times : DotTimes
 unfolding dot times total
@@ -18,8 +17,3 @@ pub evals-step : EvalsStep
 unfolding evals eval times padd
 evals-step x P [] = refl
 evals-step x P (z ∷ points) = ap (λ (l : List ℕ). add x (mul z (eval P z)) ∷ l) (evals-step x P points)
-
-pub powers-inverse : PowersInverse
-unfolding powers
-powers-inverse [] = refl
-powers-inverse (x ∷ l) = ap₂ _∷_ (sym (inverse-power x)) (powers-inverse l)
