@@ -50,20 +50,10 @@ module _ (p : Profile) (y : List ℕ) (v : InRange p) (h : Cells p y) where
     itself : Reached p y 0 0 y
     itself = record { run = zero-le; codeword = clean-word p y v h t; agree = λ i l o. refl }
 
-    clean-none : NoneReached p y → ⊥
-    clean-none n = n 0 0 y zero-le itself
-
-    clean-two : TwoReached p y → ⊥
-    clean-two z =
-        let s₀ : z .size ≡ 0 = (let l : z .size ≤ 0 = z .least 0 0 y itself in omega arith) in
-        z .differ
-        (empty-run (p .n) (p .r) (p .b) y (z .start₁) (z .first) (h .count) (subst (λ (x : ℕ). Reached p y (z .start₁) x (z .first)) s₀ (z .reached₁))
-        ∙ sym (empty-run (p .n) (p .r) (p .b) y (z .start₂) (z .second) (h .count) (subst (λ (x : ℕ). Reached p y (z .start₂) x (z .second)) s₀ (z .reached₂))))
-
     clean-cells : corrected p y ≡ y
     clean-cells = corrected-at p y 0 0 (clean-verdict p y v h t) ∙ added-none y 0 (shiftedRemainder (p .b) (p .r) 0 y) zero-le
 
-    clean-one : OneReached p y 0 0 y
+    pub clean-one : OneReached p y 0 0 y
     clean-one = record {
       within = zero-le;
       reached = itself;
@@ -111,9 +101,6 @@ module _ (p : Profile) (y : List ℕ) (v : InRange p) (h : Cells p y) where
       hit : Reached p y (k .start) (k .size) (W (k .start) (k .size))
       hit = best-reach p y v h t l
 
-      some-reached : NoneReached p y → ⊥
-      some-reached n = n (k .start) (k .size) (W (k .start) (k .size)) l hit
-
       -- a second start
       two-starts : k .again ≡ true → TwoReached p y
       two-starts a =
@@ -155,14 +142,6 @@ module _ (p : Profile) (y : List ℕ) (v : InRange p) (h : Cells p y) where
           where
             longer : (m f : ℕ) → m ≤ f → (m ≡ f → ⊥) → m < f
             longer m f u n = omega arith
-
-        not-two : TwoReached p y → ⊥
-        not-two z =
-            let q : z .size ≡ k .size = (let i : z .size ≤ k .size = z .least (k .start) (k .size) _ hit in
-            let j : k .size ≤ z .size = reach-size p y v h t (z .start₁) (z .size) (z .first) (z .within) (z .reached₁) in omega arith) in
-            z .differ
-            (same-word (z .start₁) (z .first) (subst (λ (x : ℕ). Reached p y (z .start₁) x (z .first)) q (z .reached₁))
-            ∙ sym (same-word (z .start₂) (z .second) (subst (λ (x : ℕ). Reached p y (z .start₂) x (z .second)) q (z .reached₂))))
 
         one-only : (s f : ℕ) (c : List ℕ) → OneReached p y s f c → (s ≡ k .start) × (f ≡ k .size) × (c ≡ W (k .start) (k .size))
         one-only s f c o =

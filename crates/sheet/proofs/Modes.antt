@@ -3,7 +3,7 @@
 use mathlib.Core.Path.{_≡_, refl, sym, ap, subst, _∙_}
 use mathlib.Core.Logic.{_↔_, _≢_, _⊎_, inl, inr, ⊎-elim}
 use mathlib.Core.List.{List}
-use Prim.Native.Nat.{ℕ, _+_, _≤_, zero-le}
+use Prim.Native.Nat.{ℕ, _+_}
 use native.Mathlib.Omega.{arith}
 use lib.ListN.{length}
 use Rattle.code.specs.Code.{distance}
@@ -19,9 +19,9 @@ use Rattle.block.specs.declared.Verdict.{Verdict}
 use Rattle.block.specs.declared.Verdict.the-variants.{Uncorrectable, Ambiguous, TooManyErrors, CorrectedCells}
 use Rattle.sheet.specs.declared.Mode.{Mode}
 use Rattle.sheet.specs.declared.Mode.the-variants.{Burst, Spots}
-use Rattle.block.proofs.Shortest.{empty-run}
+use Rattle.block.proofs.Shortest.{empty-run, word-clean}
 use Rattle.block.proofs.NumberLaws.{verdict-of, verdict-0, verdict-late}
-use Rattle.block.proofs.Verdicts.{exactly-one, verdict-none, verdict-two, verdict-one}
+use Rattle.block.proofs.Verdicts.{clean-one, verdict-none, verdict-two, verdict-one}
 use Rattle.block.proofs.Answers.{block-answer, block-leaves}
 use Rattle.spots.proofs.Verdicts.{spot-none, spot-one, spot-near}
 use Rattle.spots.proofs.Answers.{spot-of, spot-answer, spot-leaves}
@@ -136,24 +136,6 @@ module _ (p : Profile) (y : List ℕ) (v : InRange p) (w : Word p y) where
   whole : Cells p y
   whole = record { count = w .cells; bytes = w .bytes }
 
-  itself : Reached p y 0 0 y
-  itself = record { run = zero-le; codeword = w; agree = λ i l o. refl }
-
-  own-run : (s f : ℕ) × OneReached p y s f y
-  own-run =
-      ⊎-elim (λ n. absurd (n 0 0 y zero-le itself))
-      (⊎-elim
-      (λ z.
-      let q : z .size ≡ 0 = (let l : z .size ≤ 0 = z .least 0 0 y itself in omega arith) in
-      absurd (z .differ (own (z .start₁) (z .first) (subst (λ (x : ℕ). Reached p y (z .start₁) x (z .first)) q (z .reached₁)) ∙ sym (own (z .start₂) (z .second) (subst (λ (x : ℕ). Reached p y (z .start₂) x (z .second)) q (z .reached₂))))))
-      (λ o.
-      let q : o .1 ≡ 0 = (let l : o .1 ≤ 0 = o .3 .least 0 0 y itself in omega arith) in
-      (o .0, o .1, subst (OneReached p y (o .0) (o .1)) (own (o .0) (o .2) (subst (λ (x : ℕ). Reached p y (o .0) x (o .2)) q (o .3 .reached))) (o .3))))
-      (exactly-one p y v whole .some)
-    where
-      own : (s : ℕ) (c : List ℕ) → Reached p y s 0 c → c ≡ y
-      own s c r = empty-run (p .n) (p .r) (p .b) y s c (w .cells) r
-
   pub own-word : (mode : Mode) → GoesTo mode p y y
-  own-word Burst = own-run
+  own-word Burst = (0, 0, clean-one p y v whole (word-clean p y v whole w))
   own-word Spots = spot-near p y v whole y (record { word = w; within = let z = distance-self y in omega arith })
