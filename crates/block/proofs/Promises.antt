@@ -14,7 +14,6 @@ use Rattle.lists.proofs.Test.{true-or-false, both-true, pick-of}
 use Rattle.code.specs.Code.{syndrome}
 use Rattle.code.proofs.Division.{codeword-syndromes, syndromes-codeword}
 use Rattle.profile.specs.Profile.{InRange, messageLength}
-use Rattle.profile.specs.Refusals.{refusing}
 use Rattle.block.specs.Block.{encode, isClean, verdict, corrected, filled, writeFits, writeAnswer, writeLeaves, checkAnswer, correctFits, correctAnswer, correctLeaves}
 use Rattle.block.specs.Numbers.{verdictNumber, verdictStart, verdictLength, writtenNumber, checkedNumber, checkedClean}
 use Rattle.block.specs.Runs.{Cells, Word, OneReached}
@@ -25,8 +24,7 @@ use Rattle.block.specs.declared.Verdict.the-variants as verdicts
 use Rattle.block.specs.declared.Written.the-variants as writes
 use Rattle.block.specs.declared.Checked.{Checked}
 use Rattle.block.specs.declared.Checked.the-variants as checks
-use Rattle.profile.proofs.Ranges.{in-range}
-use Rattle.profile.proofs.Refusing.{early-of, kept-of}
+use Rattle.profile.proofs.Refusing.{same-refusing, early-of, kept-of}
 use Rattle.block.proofs.NumberLaws.{number-3, number-4, verdict-0, verdict-late, no-values, not-called}
 use Rattle.block.proofs.Shortest.{clean-word, word-clean}
 use Rattle.block.proofs.Encoding.{encode-message, encode-codeword, same-message}
@@ -138,8 +136,10 @@ module _ (p q : Profile) (y out : List ℕ) (v : InRange p) (w : InRange q) (en 
   same-fits = rw en
 
   same-answer : correctAnswer p y out ≡ correctAnswer q y out
-  unfolding correctAnswer refusing
-  same-answer = rw (in-range p .1 v, in-range q .1 w, same-fits, same-verdict p q y en er eb el)
+  unfolding correctAnswer
+  same-answer =
+      same-refusing p q (correctFits p y out) (correctFits q y out) verdicts.BadProfile verdicts.WrongLength (verdict p y) (verdict q y) v w same-fits
+      (same-verdict p q y en er eb el)
 
   same-leaves : correctLeaves p y out ≡ correctLeaves q y out
   unfolding correctLeaves

@@ -4,10 +4,10 @@ use mathlib.Core.Logic.{_↔_, _≢_, ⊎-elim}
 use mathlib.Core.Bool.{Bool, true, false}
 use Prim.Native.Nat.{ℕ}
 use native.Mathlib.Omega.{arith}
-use Rattle.lists.proofs.Test.{true-or-false, true-false}
+use Rattle.lists.specs.Choice.{pick}
+use Rattle.lists.proofs.Test.{true-or-false, true-false, pick-of}
 use Rattle.profile.specs.Profile.{InRange, inRange}
-use Rattle.profile.specs.Refusals.{refusing}
-use Rattle.profile.specs.Refusals.{EarlyRefusals}
+use Rattle.profile.specs.Refusals.{refusing, EarlyRefusals}
 use Rattle.profile.specs.declared.Profile.{Profile}
 use Rattle.profile.proofs.Ranges.{in-range}
 
@@ -24,6 +24,16 @@ module _ {A : Type 0} (p : Profile) (fits : Bool) (one two rest : A) where
     pub accept : fits ≡ true → rest ≡ refusing p fits one two rest
     unfolding refusing
     accept e = rw (v, e)
+
+  -- what holds of the three cases holds of what is answered
+  pub refusing-of : (P : A → Type 0) → P one → P two → P rest → P (refusing p fits one two rest)
+  unfolding refusing
+  refusing-of P a b c = pick-of P (inRange p) (pick fits rest two) one (pick-of P fits rest two c b) a
+
+-- profiles in range, with the same test and the same rest, have the same answer
+pub same-refusing : {A : Type 0} (p q : Profile) (f g : Bool) (one two x y : A) → InRange p → InRange q → f ≡ g → x ≡ y → refusing p f one two x ≡ refusing q g one two y
+unfolding refusing
+same-refusing p q f g one two x y v w ef ex = rw (in-range p .1 v, in-range q .1 w, ef, ex)
 
 -- ---- exactly when
 

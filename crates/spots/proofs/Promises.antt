@@ -6,14 +6,11 @@ use mathlib.Core.List.{List}
 use Prim.Native.Nat.{ℕ, _<_}
 use native.Mathlib.Omega.{arith}
 use lib.ListN.{length}
-use Rattle.lists.specs.Choice.{pick}
-use Rattle.lists.proofs.Test.{pick-of}
 use Rattle.code.specs.Code.{distance}
 use Rattle.locator.proofs.Theorems.{nearest-only}
-use Rattle.profile.specs.Profile.{InRange, inRange, half}
-use Rattle.profile.specs.Refusals.{refusing, EarlyRefusals}
-use Rattle.profile.proofs.Ranges.{in-range}
-use Rattle.profile.proofs.Refusing.{early-of}
+use Rattle.profile.specs.Profile.{InRange, half}
+use Rattle.profile.specs.Refusals.{EarlyRefusals}
+use Rattle.profile.proofs.Refusing.{refusing-of, same-refusing, early-of}
 use Rattle.block.specs.Block.{correctFits}
 use Rattle.block.specs.Numbers.{verdictNumber, verdictCount, verdictLowest}
 use Rattle.block.specs.Promises.{LentBlock}
@@ -89,8 +86,8 @@ module _ (p q : Profile) (y out : List ℕ) (v : InRange p) (w : InRange q) (en 
   same-fits = rw en
 
   same-answer : spotAnswer p y out ≡ spotAnswer q y out
-  unfolding spotAnswer refusing
-  same-answer = rw (in-range p .1 v, in-range q .1 w, same-fits, same-verdict p q y en er eb)
+  unfolding spotAnswer
+  same-answer = same-refusing p q (correctFits p y out) (correctFits q y out) BadProfile WrongLength (spotVerdict p y) (spotVerdict q y) v w same-fits (same-verdict p q y en er eb)
 
   same-leaves : spotLeaves p y out ≡ spotLeaves q y out
   unfolding spotLeaves
@@ -119,10 +116,10 @@ late-numbered w l n = ⊎-elim (λ z. absurd (n z)) (λ z. inr (inr z)) l
 
 module _ (p : Profile) (y out : List ℕ) where
   numbered : Numbered (spotAnswer p y out)
-  unfolding spotAnswer refusing
+  unfolding spotAnswer
   numbered =
-      pick-of Numbered (inRange p) (pick (correctFits p y out) (spotVerdict p y) WrongLength) BadProfile
-      (pick-of Numbered (correctFits p y out) (spotVerdict p y) WrongLength (late-numbered (spotVerdict p y) (verdict-late p y)) (λ n. inr (inl refl))) (λ n. inl refl)
+      refusing-of p (correctFits p y out) BadProfile WrongLength (spotVerdict p y) Numbered (λ n. inl refl) (λ n. inr (inl refl))
+      (late-numbered (spotVerdict p y) (verdict-late p y))
 
   early : EarlyRefusals p ((length y ≡ p .n) × (length out ≡ p .n)) (verdictNumber (spotAnswer p y out))
   unfolding spotAnswer correctFits
