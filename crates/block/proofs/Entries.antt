@@ -174,6 +174,11 @@ module _ (p : Profile) (m out : List ℕ) where
 
 -- ---- the corrector
 
+-- the test of the lengths reads n of the profile
+pub same-fits : (p q : Profile) (y out : List ℕ) → p .n ≡ q .n → correctFits p y out ≡ correctFits q y out
+unfolding correctFits
+same-fits p q y out e = rw e
+
 module _ (p : Profile) (y out : List ℕ) where
   pub correct-one : inRange p ≡ false → (verdicts.BadProfile ≡ correctAnswer p y out) × (out ≡ correctLeaves p y out)
   unfolding correctLeaves filled

@@ -27,6 +27,7 @@ use Rattle.block.specs.declared.Checked.the-variants as checks
 use Rattle.profile.proofs.Refusing.{same-refusing, early-of, kept-of}
 use Rattle.block.proofs.NumberLaws.{number-3, number-4, verdict-0, verdict-late, no-values, not-called}
 use Rattle.block.proofs.Shortest.{clean-word, word-clean}
+use Rattle.block.proofs.Entries.{same-fits}
 use Rattle.block.proofs.Encoding.{encode-message, encode-codeword, same-message}
 use Rattle.block.proofs.Verdicts.{verdict-none, verdict-two, verdict-one, verdict-half, same-verdict, same-filled}
 use Rattle.block.proofs.Answers.{write-accepted, block-written, block-checked, block-answer, block-leaves, block-kept}
@@ -131,15 +132,11 @@ half-promise p y out s f c v h l m k =
     (ap verdictNumber (is-verdict p y out v h ∙ q .0 .2), leaves-word p y out v h (q .0 .0) (q .0 .1) (q .0 .2) ∙ q .1)
 
 module _ (p q : Profile) (y out : List ℕ) (v : InRange p) (w : InRange q) (en : p .n ≡ q .n) (er : p .r ≡ q .r) (eb : p .b ≡ q .b) (el : p .limit ≡ q .limit) where
-  same-fits : correctFits p y out ≡ correctFits q y out
-  unfolding correctFits
-  same-fits = rw en
-
   same-answer : correctAnswer p y out ≡ correctAnswer q y out
   unfolding correctAnswer
   same-answer =
-      same-refusing p q (correctFits p y out) (correctFits q y out) verdicts.BadProfile verdicts.WrongLength (verdict p y) (verdict q y) v w same-fits
-      (same-verdict p q y en er eb el)
+      same-refusing p q (correctFits p y out) (correctFits q y out) verdicts.BadProfile verdicts.WrongLength (verdict p y) (verdict q y) v w
+      (same-fits p q y out en) (same-verdict p q y en er eb el)
 
   same-leaves : correctLeaves p y out ≡ correctLeaves q y out
   unfolding correctLeaves

@@ -3,7 +3,8 @@ use mathlib.Core.Path.{_≡_, refl, sym, ap, ap₂, _∙_, subst}
 use mathlib.Core.Logic.{_↔_, _≢_, _⊎_, inl, inr, ⊎-elim}
 use mathlib.Core.Bool.{true, false}
 use mathlib.Core.List.{List}
-use Prim.Native.Nat.{ℕ, zero, suc, _≤_, _<_, zero-le}
+use Prim.Native.Nat.{ℕ, _≤_, _<_, zero-le}
+use native.Mathlib.Nat.{pos-of-ne-zero}
 use native.Mathlib.Omega.{arith}
 use lib.Dec.{ltb}
 use lib.ListN.{length, take}
@@ -58,13 +59,9 @@ module _ (p : Profile) (y : List ℕ) (v : InRange p) (h : Cells p y) where
       within = zero-le;
       reached = itself;
       least = λ s f c k. zero-le;
-      others = λ s f c k n. positive f (λ q. n (empty-run (p .n) (p .r) (p .b) y s c (h .count) (subst (λ (x : ℕ). Reached p y s x c) q k)));
+      others = λ s f c k n. pos-of-ne-zero (λ q. n (empty-run (p .n) (p .r) (p .b) y s c (h .count) (subst (λ (x : ℕ). Reached p y s x c) q k)));
       clean = λ _. (refl, refl);
     }
-      where
-        positive : (f : ℕ) → f ≢ 0 → 0 < f
-        positive zero n = absurd (n refl)
-        positive (suc f) n = omega arith
 
     -- and no other start, length and codeword
     clean-only : (s f : ℕ) (c : List ℕ) → OneReached p y s f c → (s ≡ 0) × (f ≡ 0) × (c ≡ y)

@@ -15,7 +15,7 @@ use Rattle.code.specs.Poly.{padd, pscale}
 use Rattle.code.proofs.Poly.{pscale-mul}
 use Rattle.words.specs.Word.{byte, bytesFrom}
 use Rattle.words.specs.Doubles.{bitsAt}
-use Rattle.words.proofs.Words.{byte-lt, word-bytes, word-xor, same8}
+use Rattle.words.proofs.Words.{byte-lt, word-bytes, word-sum, same8}
 use Rattle.words.proofs.Bits.{ones, plane-byte, plane-law, sum8, cell-sum, padd8}
 use Rattle.products.specs.Products.{times}
 use Rattle.products.specs.Doubles.{WordDoublesOf}
@@ -79,13 +79,10 @@ pub chosen-sum : (d : WordDoubles) (v p0 p1 p2 p3 p4 p5 p6 p7 : ℕ)
     → (x : ℕ) → WordDoublesOf x d
     → bytesFrom 8 0 (bitXor (bitXor (bitXor (bitXor p0 p1) p2) p3) (bitXor (bitXor (bitXor p4 p5) p6) p7)) ≡ times (bytesFrom 8 0 x) (bytesFrom 8 0 v)
 chosen-sum d v p0 p1 p2 p3 p4 p5 p6 p7 h0 h1 h2 h3 h4 h5 h6 h7 x e =
-    both _ _ (both _ _ (both _ _ (both p0 p1 (h0 ∙ on 0 (ap (bytesFrom 8 0) (e .0))) (h1 ∙ on 1 (e .1))) (h2 ∙ on 2 (e .2))) (h3 ∙ on 3 (e .3)))
-    (both _ _ (both _ _ (both p4 p5 (h4 ∙ on 4 (e .4)) (h5 ∙ on 5 (e .5))) (h6 ∙ on 6 (e .6))) (h7 ∙ on 7 (e .7)))
+    word-sum _ _ (word-sum _ _ (word-sum _ _ (word-sum p0 p1 (h0 ∙ on 0 (ap (bytesFrom 8 0) (e .0))) (h1 ∙ on 1 (e .1))) (h2 ∙ on 2 (e .2))) (h3 ∙ on 3 (e .3)))
+    (word-sum _ _ (word-sum _ _ (word-sum p4 p5 (h4 ∙ on 4 (e .4)) (h5 ∙ on 5 (e .5))) (h6 ∙ on 6 (e .6))) (h7 ∙ on 7 (e .7)))
     ∙ list-product (bytesFrom 8 0 x) (bytesFrom 8 0 v) (word-bytes 8 0 x) (word-bytes 8 0 v)
   where
-    both : (s t : ℕ) {p q : List ℕ} → bytesFrom 8 0 s ≡ p → bytesFrom 8 0 t ≡ q → bytesFrom 8 0 (bitXor s t) ≡ padd p q
-    both s t es et = word-xor 8 0 s t ∙ ap₂ padd es et
-
     on : (k : ℕ) {p q : List ℕ} → p ≡ q → times (bitsAt k (bytesFrom 8 0 v)) p ≡ times (bitsAt k (bytesFrom 8 0 v)) q
     on k = ap (times (bitsAt k (bytesFrom 8 0 v)))
 

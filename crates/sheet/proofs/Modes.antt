@@ -24,7 +24,7 @@ use Rattle.block.proofs.NumberLaws.{verdict-of, verdict-0, verdict-late}
 use Rattle.block.proofs.Verdicts.{clean-one, verdict-none, verdict-two, verdict-one}
 use Rattle.block.proofs.Answers.{block-answer, block-leaves}
 use Rattle.spots.proofs.Verdicts.{spot-none, spot-one, spot-near}
-use Rattle.spots.proofs.Answers.{spot-of, spot-answer, spot-leaves}
+use Rattle.spots.proofs.Answers.{spot-of, spot-late, spot-answer, spot-leaves}
 use Rattle.sheet.specs.Modes.{verdictIn, wordIn, GoesTo, BlockRefusedBy}
 use Rattle.sheet.specs.Steps.{answerIn, leavesIn}
 
@@ -114,7 +114,7 @@ block-law Spots p y v h = spot-law p y v h
 -- a verdict on cells is neither refusal 1 nor 2
 pub late-in : (mode : Mode) (p : Profile) (y : List ℕ) → (verdictNumber (verdictIn mode p y) ≢ 1) × (verdictNumber (verdictIn mode p y) ≢ 2)
 late-in Burst p y = verdict-late p y
-late-in Spots p y = spot-of (λ (w : Verdict). (verdictNumber w ≢ 1) × (verdictNumber w ≢ 2)) ((λ q. omega arith), (λ q. omega arith)) (λ t j. ((λ q. omega arith), (λ q. omega arith))) p y
+late-in Spots p y = spot-late p y
 
 -- it is what the corrector of the mode answers, and the codeword what it leaves
 module _ (p : Profile) (v : InRange p) (y : List ℕ) (h : length y ≡ p .n) (out : List ℕ) (e : length out ≡ p .n) where

@@ -31,6 +31,11 @@ spot-of P none some p y = decided (readSyndromes p y)
         unfold spotDecided in
         pick-of P (isLocated 64 (half p) (p .n) s) (CorrectedCells (length (locations 64 (p .n) s)) (getD (locations 64 (p .n) s) 0 0)) TooManyErrors (some _ _) none
 
+-- it has no number 1 or 2
+pub spot-late : (p : Profile) (y : List ℕ) → (verdictNumber (spotVerdict p y) ≢ 1) × (verdictNumber (spotVerdict p y) ≢ 2)
+spot-late =
+    spot-of (λ (w : Verdict). (verdictNumber w ≢ 1) × (verdictNumber w ≢ 2)) ((λ q. omega arith), (λ q. omega arith)) (λ t j. ((λ q. omega arith), (λ q. omega arith)))
+
 -- verdict and codeword read n, r and b of the profile, and nothing else
 module _ (p q : Profile) (y : List ℕ) (en : p .n ≡ q .n) (er : p .r ≡ q .r) (eb : p .b ≡ q .b) where
   pub same-verdict : spotVerdict p y ≡ spotVerdict q y

@@ -14,6 +14,7 @@ use Rattle.profile.proofs.Refusing.{refusing-of, same-refusing, early-of}
 use Rattle.block.specs.Block.{correctFits}
 use Rattle.block.specs.Numbers.{verdictNumber, verdictCount, verdictLowest}
 use Rattle.block.specs.Promises.{LentBlock}
+use Rattle.block.proofs.Entries.{same-fits}
 use Rattle.block.proofs.Promises.{two-lengths}
 use Rattle.block.proofs.NumberLaws.{no-values}
 use Rattle.profile.specs.declared.Profile.{Profile}
@@ -24,7 +25,7 @@ use Rattle.spots.specs.Nearest.{Near, NoneNear, NearestWord}
 use Rattle.spots.specs.Promises.{CorrectsCells, CorrectedCellsIff, TooManyErrorsIff, NoTie, NearComesBack, LimitFree, SpotRefusals}
 use Rattle.spots.proofs.Words.{word-or-not}
 use Rattle.spots.proofs.Verdicts.{spot-none, spot-one, spot-some, spot-near}
-use Rattle.spots.proofs.Answers.{spot-of, same-verdict, same-word, spot-kept, spot-answer, spot-leaves}
+use Rattle.spots.proofs.Answers.{spot-of, spot-late, same-verdict, same-word, spot-kept, spot-answer, spot-leaves}
 
 module _ (p : Profile) (y out : List ℕ) (v : InRange p) (h : LentBlock p y out) where
   is-verdict : spotAnswer p y out ≡ spotVerdict p y
@@ -81,13 +82,10 @@ no-tie p y c d v e j k =
 -- ---- what the answer reads of the profile
 
 module _ (p q : Profile) (y out : List ℕ) (v : InRange p) (w : InRange q) (en : p .n ≡ q .n) (er : p .r ≡ q .r) (eb : p .b ≡ q .b) where
-  same-fits : correctFits p y out ≡ correctFits q y out
-  unfolding correctFits
-  same-fits = rw en
-
   same-answer : spotAnswer p y out ≡ spotAnswer q y out
   unfolding spotAnswer
-  same-answer = same-refusing p q (correctFits p y out) (correctFits q y out) BadProfile WrongLength (spotVerdict p y) (spotVerdict q y) v w same-fits (same-verdict p q y en er eb)
+  same-answer =
+      same-refusing p q (correctFits p y out) (correctFits q y out) BadProfile WrongLength (spotVerdict p y) (spotVerdict q y) v w (same-fits p q y out en) (same-verdict p q y en er eb)
 
   same-leaves : spotLeaves p y out ≡ spotLeaves q y out
   unfolding spotLeaves
@@ -98,34 +96,21 @@ limit-free p q y out v w en er eb = (same-answer p q y out v w en er eb, same-le
 
 -- ---- refusals
 
--- the verdict is none of the first two refusals
-abbrev Late : Verdict → Type 0
-Late w = (verdictNumber w ≡ 0) ⊎ (verdictNumber w ≡ 11)
-
-verdict-late : (p : Profile) (y : List ℕ) → Late (spotVerdict p y)
-verdict-late = spot-of Late (inr refl) (λ t j. inl refl)
-
-not-early : (w : Verdict) → Late w → (verdictNumber w ≢ 1) × (verdictNumber w ≢ 2)
-not-early w l = (λ q. ⊎-elim (λ z. omega arith) (λ z. omega arith) l, λ q. ⊎-elim (λ z. omega arith) (λ z. omega arith) l)
-
 abbrev Numbered : Verdict → Type 0
 Numbered w = verdictNumber w ≢ 0 → (verdictNumber w ≡ 1) ⊎ ((verdictNumber w ≡ 2) ⊎ (verdictNumber w ≡ 11))
-
-late-numbered : (w : Verdict) → Late w → Numbered w
-late-numbered w l n = ⊎-elim (λ z. absurd (n z)) (λ z. inr (inr z)) l
 
 module _ (p : Profile) (y out : List ℕ) where
   numbered : Numbered (spotAnswer p y out)
   unfolding spotAnswer
   numbered =
       refusing-of p (correctFits p y out) BadProfile WrongLength (spotVerdict p y) Numbered (λ n. inl refl) (λ n. inr (inl refl))
-      (late-numbered (spotVerdict p y) (verdict-late p y))
+      (spot-of Numbered (λ n. inr (inr refl)) (λ t j n. absurd (n refl)) p y)
 
   early : EarlyRefusals p ((length y ≡ p .n) × (length out ≡ p .n)) (verdictNumber (spotAnswer p y out))
   unfolding spotAnswer correctFits
   early =
-      let l = not-early (spotVerdict p y) (verdict-late p y) in
-      early-of p (correctFits p y out) _ (two-lengths (length y) (length out) (p .n) (p .n)) verdictNumber BadProfile WrongLength (spotVerdict p y) refl refl (l .0) (l .1)
+      early-of p (correctFits p y out) _ (two-lengths (length y) (length out) (p .n) (p .n)) verdictNumber BadProfile WrongLength (spotVerdict p y) refl refl
+      (spot-late p y .0) (spot-late p y .1)
 
   pub spot-refusals : SpotRefusals p y out
   spot-refusals = record {

@@ -5,6 +5,7 @@ use mathlib.Core.Logic.{_↔_, _≢_, _⊎_, inl, inr, ⊎-elim}
 use mathlib.Core.Bool.{Bool, true, false}
 use mathlib.Core.List.{List, [], _∷_}
 use Prim.Native.Nat.{ℕ, _+_, _≤_, _<_, zero-le}
+use native.Mathlib.Nat.{pos-of-ne-zero}
 use native.Mathlib.Omega.{arith}
 use lib.ListN.{length, getD}
 use Rattle.lists.proofs.Test.{true-or-false}
@@ -167,8 +168,5 @@ module _ (p : Profile) (y : List ℕ) (v : InRange p) (h : Cells p y) where
         within = zero-le;
         count = distance-self y;
         lowest = record { differs = λ n. absurd (n refl); below = λ i l. refl; clean = λ q. refl };
-        others = λ d k n. positive (distance y d) (λ q. n (sym (distance-same y d (h .count ∙ sym (k .cells)) q)));
+        others = λ d k n. pos-of-ne-zero (λ q. n (sym (distance-same y d (h .count ∙ sym (k .cells)) q)));
       })
-    where
-      positive : (m : ℕ) → m ≢ 0 → 0 < m
-      positive m n = ⊎-elim (λ q. absurd (n q)) (λ q. omega arith) (same-or-not m 0)

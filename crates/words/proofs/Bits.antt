@@ -19,7 +19,7 @@ use Rattle.words.specs.Cells.{shiftDown}
 use Rattle.words.specs.Doubles.{DoublesOf, bitsAt, nextDoubles, timesDoubles}
 use Rattle.words.specs.declared.Doubles.{Doubles}
 use Rattle.words.proofs.Linear.{family, agreeB, shr, byte-add, shr-add, and-add, after, sum-add}
-use Rattle.words.proofs.Words.{word-bytes, down-bytes, word-xor, same8}
+use Rattle.words.proofs.Words.{word-bytes, down-bytes, word-sum, same8}
 
 abbrev pub ones : ℕ
 ones = 0x0101010101010101
@@ -173,10 +173,7 @@ pub planes-sum : (w : ℕ) (d : Doubles) (p0 p1 p2 p3 p4 p5 p6 p7 : ℕ)
     → bytesFrom 8 0 (bitXor (bitXor (bitXor (bitXor p0 p1) p2) p3) (bitXor (bitXor (bitXor p4 p5) p6) p7)) ≡ timesDoubles d (bytesFrom 8 0 w)
 unfolding timesDoubles
 planes-sum w d p0 p1 p2 p3 p4 p5 p6 p7 h0 h1 h2 h3 h4 h5 h6 h7 =
-    both _ _ (both _ _ (both _ _ (both p0 p1 h0 h1) h2) h3) (both _ _ (both _ _ (both p4 p5 h4 h5) h6) h7)
-  where
-    both : (u v : ℕ) {p q : List ℕ} → bytesFrom 8 0 u ≡ p → bytesFrom 8 0 v ≡ q → bytesFrom 8 0 (bitXor u v) ≡ padd p q
-    both u v eu ev = word-xor 8 0 u v ∙ ap₂ padd eu ev
+    word-sum _ _ (word-sum _ _ (word-sum _ _ (word-sum p0 p1 h0 h1) h2) h3) (word-sum _ _ (word-sum _ _ (word-sum p4 p5 h4 h5) h6) h7)
 
 -- a blank word has no bits
 pub blank-planes : (d : Doubles) (w : ℕ) → w ≡ 0 → bytesFrom 8 0 0 ≡ timesDoubles d (bytesFrom 8 0 w)

@@ -42,6 +42,10 @@ unfolding padd
 word-xor zero k v w = refl
 word-xor (suc n) k v w = ap₂ _∷_ (xored k v w) (word-xor n (suc k) v w)
 
+-- of two words whose cells are known
+pub word-sum : (v w : ℕ) {p q : List ℕ} → bytesFrom 8 0 v ≡ p → bytesFrom 8 0 w ≡ q → bytesFrom 8 0 (bitXor v w) ≡ padd p q
+word-sum v w ev ew = word-xor 8 0 v w ∙ ap₂ padd ev ew
+
 abbrev eight : (x0 x1 x2 x3 x4 x5 x6 x7 : ℕ) → List ℕ
 eight x0 x1 x2 x3 x4 x5 x6 x7 = x0 ∷ x1 ∷ x2 ∷ x3 ∷ x4 ∷ x5 ∷ x6 ∷ x7 ∷ []
 
