@@ -45,6 +45,16 @@ number-most (Corrected s f) = omega arith
 number-most TooManyErrors = omega arith
 number-most (CorrectedCells t j) = omega arith
 
+-- the mode whose case a verdict is: 1 burst, 2 spot, and 0 for the cases of both
+abbrev pub caseOf : Verdict → ℕ
+caseOf BadProfile = 0
+caseOf WrongLength = 0
+caseOf Uncorrectable = 1
+caseOf Ambiguous = 1
+caseOf (Corrected s f) = 1
+caseOf TooManyErrors = 2
+caseOf (CorrectedCells t j) = 2
+
 -- beside a refusal every value is 0
 pub record NoValues (w : Verdict) : Type 0 where
   pub start : verdictStart w ≡ 0

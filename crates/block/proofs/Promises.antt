@@ -24,8 +24,8 @@ use Rattle.block.specs.declared.Verdict.the-variants as verdicts
 use Rattle.block.specs.declared.Written.the-variants as writes
 use Rattle.block.specs.declared.Checked.{Checked}
 use Rattle.block.specs.declared.Checked.the-variants as checks
-use Rattle.profile.proofs.Refusing.{same-refusing, early-of, kept-of}
-use Rattle.block.proofs.NumberLaws.{number-3, number-4, verdict-0, verdict-late, no-values, not-called}
+use Rattle.profile.proofs.Refusing.{refusing-of, same-refusing, early-of, kept-of}
+use Rattle.block.proofs.NumberLaws.{number-3, number-4, caseOf, verdict-of, verdict-0, verdict-late, no-values, not-called}
 use Rattle.block.proofs.Shortest.{clean-word, word-clean}
 use Rattle.block.proofs.Entries.{same-fits}
 use Rattle.block.proofs.Encoding.{encode-message, encode-codeword, same-message}
@@ -183,6 +183,12 @@ module _ (p : Profile) (y : List ℕ) where
   }
 
 module _ (p : Profile) (y out : List ℕ) where
+  of-burst : caseOf (correctAnswer p y out) ≢ 2
+  unfolding correctAnswer
+  of-burst =
+      refusing-of p (correctFits p y out) verdicts.BadProfile verdicts.WrongLength (verdict p y) (λ (w : Verdict). caseOf w ≢ 2) (λ q. omega arith) (λ q. omega arith)
+      (verdict-of (λ (w : Verdict). caseOf w ≢ 2) (λ q. omega arith) (λ q. omega arith) (λ s f q. omega arith) p y)
+
   correct-refusals : CorrectRefusals p y out
   unfolding correctAnswer correctFits
   correct-refusals = record {
@@ -192,6 +198,7 @@ module _ (p : Profile) (y out : List ℕ) where
     place = refl;
     kept = block-kept p y out;
     run = λ n. let z = no-values (correctAnswer p y out) n in (z .start, z .size);
+    no-cells = (λ q. of-burst (ap caseOf q), λ t j q. of-burst (ap caseOf q));
   }
 
 pub block-refusals : (p : Profile) → BlockRefusals p

@@ -14,6 +14,7 @@ use Rattle.block.specs.Block.{writeAnswer, writeLeaves, checkAnswer, cor
 use Rattle.block.specs.Numbers.{verdictNumber, verdictPlace, verdictStart, verdictLength, writtenNumber, writtenPlace, checkedNumber, checkedPlace, checkedClean}
 use Rattle.block.specs.Runs.{Cells, Word, Reached, NoneReached, TwoReached, OneReached, OneOfThree}
 use Rattle.profile.specs.declared.Profile.{Profile}
+use Rattle.block.specs.declared.Verdict.the-variants.{TooManyErrors, CorrectedCells}
 
 -- ---- 1. B4: the writer
 
@@ -101,6 +102,8 @@ pub record CorrectRefusals (p : Profile) (y out : List ℕ) : Type 0 where
   pub place : verdictPlace (correctAnswer p y out) ≡ 0
   pub kept : verdictNumber (correctAnswer p y out) ≢ 0 → correctLeaves p y out ≡ out
   pub run : verdictNumber (correctAnswer p y out) ≢ 0 → (verdictStart (correctAnswer p y out) ≡ 0) × (verdictLength (correctAnswer p y out) ≡ 0)
+  -- never spot mode's cases
+  pub no-cells : (correctAnswer p y out ≢ TooManyErrors) × ((t j : ℕ) → correctAnswer p y out ≢ CorrectedCells t j)
 
 pub record BlockRefusals (p : Profile) : Type 0 where
   pub writes : (m out : List ℕ) → WriteRefusals p m out

@@ -16,7 +16,7 @@ use Rattle.block.specs.Numbers.{verdictNumber, verdictCount, verdictLowest}
 use Rattle.block.specs.Promises.{LentBlock}
 use Rattle.block.proofs.Entries.{same-fits}
 use Rattle.block.proofs.Promises.{two-lengths}
-use Rattle.block.proofs.NumberLaws.{no-values}
+use Rattle.block.proofs.NumberLaws.{caseOf, no-values}
 use Rattle.profile.specs.declared.Profile.{Profile}
 use Rattle.block.specs.declared.Verdict.{Verdict}
 use Rattle.block.specs.declared.Verdict.the-variants.{BadProfile, WrongLength, CorrectedCells}
@@ -106,6 +106,12 @@ module _ (p : Profile) (y out : List ℕ) where
       refusing-of p (correctFits p y out) BadProfile WrongLength (spotVerdict p y) Numbered (λ n. inl refl) (λ n. inr (inl refl))
       (spot-of Numbered (λ n. inr (inr refl)) (λ t j n. absurd (n refl)) p y)
 
+  of-spots : caseOf (spotAnswer p y out) ≢ 1
+  unfolding spotAnswer
+  of-spots =
+      refusing-of p (correctFits p y out) BadProfile WrongLength (spotVerdict p y) (λ (w : Verdict). caseOf w ≢ 1) (λ q. omega arith) (λ q. omega arith)
+      (spot-of (λ (w : Verdict). caseOf w ≢ 1) (λ q. omega arith) (λ t j q. omega arith) p y)
+
   early : EarlyRefusals p ((length y ≡ p .n) × (length out ≡ p .n)) (verdictNumber (spotAnswer p y out))
   unfolding spotAnswer correctFits
   early =
@@ -119,4 +125,5 @@ module _ (p : Profile) (y out : List ℕ) where
     place = refl;
     kept = spot-kept p y out;
     cells = λ n. let z = no-values (spotAnswer p y out) n in (z .count, z .lowest);
+    no-run = λ s f q. of-spots (ap caseOf q);
   }

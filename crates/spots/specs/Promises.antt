@@ -11,6 +11,7 @@ use Rattle.profile.specs.Refusals.{EarlyRefusals}
 use Rattle.block.specs.Numbers.{verdictNumber, verdictPlace, verdictCount, verdictLowest}
 use Rattle.block.specs.Promises.{LentBlock}
 use Rattle.profile.specs.declared.Profile.{Profile}
+use Rattle.block.specs.declared.Verdict.the-variants.{Corrected}
 use Rattle.spots.specs.Spots.{spotAnswer, spotLeaves}
 use Rattle.spots.specs.Nearest.{Near, NoneNear, NearestWord}
 
@@ -52,3 +53,5 @@ pub record SpotRefusals (p : Profile) (y out : List ℕ) : Type 0 where
   pub place : verdictPlace (spotAnswer p y out) ≡ 0
   pub kept : verdictNumber (spotAnswer p y out) ≢ 0 → spotLeaves p y out ≡ out
   pub cells : verdictNumber (spotAnswer p y out) ≢ 0 → (verdictCount (spotAnswer p y out) ≡ 0) × (verdictLowest (spotAnswer p y out) ≡ 0)
+  -- never burst mode's case
+  pub no-run : (s f : ℕ) → spotAnswer p y out ≢ Corrected s f
