@@ -1,6 +1,7 @@
 //! The coders that the benchmark compares, behind one trait: the proved library, a plain coder over logarithm tables, and libfec.
 //! A coder that was not linked is absent from `coders`.
 
+pub mod blocks;
 pub mod coder;
 #[cfg(fec)]
 pub mod fec;

@@ -5,9 +5,9 @@
 use std::hint::black_box;
 use std::time::Instant;
 
+use bench::blocks::{blocks, Block};
 use bench::coder::Coder;
-use bench::{coders, turned, Shape};
-use second::random::Random;
+use bench::{coders, Shape};
 
 /// Calls of one sample.
 const CALLS: usize = 64;
@@ -23,36 +23,7 @@ pub struct Times {
     pub spots: Option<f64>,
 }
 
-/// One block in a coder's order of cells: its message, itself, itself with a run of half of r cells wrong, and with as many cells anywhere.
-struct Block {
-    message: Vec<u8>,
-    clean: Vec<u8>,
-    damaged: Vec<u8>,
-    spots: Vec<u8>,
-}
-
-impl Block {
-    fn new(coder: &mut dyn Coder, shape: Shape, random: &mut Random) -> Block {
-        let message = turned(coder.highest_first(), &random.bytes(shape.n - shape.r));
-        let mut clean = vec![0; shape.n];
-        coder.write(&message, &mut clean);
-        let mut damaged = clean.clone();
-        let start = random.between(0, shape.n - shape.half());
-        for cell in &mut damaged[start..start + shape.half()] {
-            *cell ^= random.nonzero();
-        }
-        let mut spots = clean.clone();
-        random.change(&mut spots, shape.half());
-        Block {
-            message,
-            clean,
-            damaged,
-            spots,
-        }
-    }
-}
-
-/// A coder with its blocks.
+/// A coder with its blocks, in its order of cells.
 struct Bench {
     coder: Box<dyn Coder>,
     blocks: Vec<Block>,
@@ -61,12 +32,9 @@ struct Bench {
 }
 
 impl Bench {
-    fn new(mut coder: Box<dyn Coder>, shape: Shape, blocks: usize) -> Bench {
-        let mut random = Random::new(11);
+    fn new(mut coder: Box<dyn Coder>, shape: Shape, blocks: &[Block]) -> Bench {
         Bench {
-            blocks: (0..blocks)
-                .map(|_| Block::new(&mut *coder, shape, &mut random))
-                .collect(),
+            blocks: blocks.iter().map(|block| block.given_to(&mut *coder)).collect(),
             coder,
             out: vec![0; shape.n],
             samples: [const { vec![] }; 5],
@@ -87,7 +55,7 @@ impl Bench {
             assert!(coder.check(black_box(&block.clean)))
         }));
         samples[2].push(nanoseconds(blocks, |block| {
-            assert_ne!(coder.correct(black_box(&block.damaged), black_box(out)), Some(false))
+            assert_ne!(coder.correct(black_box(&block.run), black_box(out)), Some(false))
         }));
         samples[3].push(nanoseconds(blocks, |block| {
             assert_ne!(
@@ -104,7 +72,7 @@ impl Bench {
     }
 
     fn times(mut self) -> Times {
-        let corrects = self.coder.correct(&self.blocks[0].damaged, &mut self.out).is_some();
+        let corrects = self.coder.correct(&self.blocks[0].run, &mut self.out).is_some();
         let has_spots = self.coder.correct_spots(&self.blocks[0].spots, &mut self.out).is_some();
         let [write, check, correct, spots_clean, spots] = self.samples.map(median);
         Times {
@@ -133,10 +101,11 @@ pub fn median(mut samples: Vec<f64>) -> f64 {
 }
 
 /// The times of every linked coder over so many different blocks.
-pub fn measure(shape: Shape, blocks: usize, rounds: usize) -> Vec<Times> {
+pub fn measure(shape: Shape, count: usize, rounds: usize) -> Vec<Times> {
+    let blocks = blocks(shape, shape.half(), count);
     let mut benches: Vec<Bench> = coders(shape)
         .into_iter()
-        .map(|coder| Bench::new(coder, shape, blocks))
+        .map(|coder| Bench::new(coder, shape, &blocks))
         .collect();
     for _ in 0..rounds {
         for bench in &mut benches {
