@@ -23,7 +23,10 @@ fn heads(text: &str) -> Vec<Vec<&str>> {
     let starts = (0..lines.len()).filter(|&i| lines[i].starts_with("pub fn ") || lines[i].starts_with("pub extern "));
     let is_clause = |line: &str| line.starts_with("requires") || line.starts_with("ensures");
     let head = |start: usize| {
-        let length = lines[start..].iter().position(|line| line.ends_with('{') && !is_clause(line)).expect("a body");
+        let length = lines[start..]
+            .iter()
+            .position(|line| line.ends_with('{') && !is_clause(line))
+            .expect("a body");
         lines[start..=start + length].to_vec()
     };
     starts.map(head).collect()
@@ -41,8 +44,14 @@ fn public_functions_ask_for_nothing() {
         for path in sources(&source) {
             for head in heads(&fs::read_to_string(&path).expect("a source file")) {
                 let place = format!("{}: {}", path.display(), head[0]);
-                assert!(!head.iter().any(|line| line.starts_with("requires")), "{place} has a requires");
-                assert!(head.iter().any(|line| line.starts_with("ensures")), "{place} has no ensures");
+                assert!(
+                    !head.iter().any(|line| line.starts_with("requires")),
+                    "{place} has a requires"
+                );
+                assert!(
+                    head.iter().any(|line| line.starts_with("ensures")),
+                    "{place} has no ensures"
+                );
                 count += 1;
             }
         }
