@@ -74,7 +74,7 @@ fn large_blocks() {
     compare_blocks("spots, large blocks", 600, LARGE, 200);
 }
 
-/// Every starting power, with r = 2 and 3, an odd and an even r, a shortened block and a whole one, and 0 to h+2 cells changed.
+/// Every starting power, with r = 2 and 3, an odd and an even r, a shortened block and a whole one, and 0, 1, h, h+1 and h+2 cells changed.
 #[test]
 fn every_starting_power() {
     let sizes = [
@@ -97,7 +97,8 @@ fn every_starting_power() {
             }
         }
     });
-    assert_eq!(tally.of("blocks"), 255 * 8 * 5);
+    // spotted: nearly all with h+1 and h+2 cells, but nearly none of n = 255, r = 2, where few blocks are not within one cell of a codeword
+    assert_eq!((tally.of("blocks"), tally.of("spotted")), (255 * 8 * 5, 3_570));
 }
 
 /// Every block of n=3 to 255, r=2, up to a codeword: the two check cells take all values above a random codeword.
