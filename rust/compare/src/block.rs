@@ -1,8 +1,8 @@
 //! Entries on a block.
 
-use crate::{numbers, outcome, profile, Answer};
+use crate::{library_mode, numbers, outcome, profile, Answer};
 use second::random::Random;
-use second::{block, spots, Profile, Run};
+use second::{block, Mode, Profile};
 use tishwabe::ffi;
 
 /// Writes a message into a buffer of `length` bytes with both.
@@ -38,39 +38,32 @@ pub fn check(p: &Profile, read: &[u8]) -> Answer {
     answer
 }
 
-/// Corrects a block into a buffer of `length` bytes with both: start and length are the values.
+/// Corrects a block in scratch mode into a buffer of `length` bytes with both: start and length of the run are the values.
 pub fn correct(random: &mut Random, p: &Profile, read: &[u8], length: usize) -> Answer {
-    let mut out = random.bytes(length);
-    let (mut due, before) = (out.clone(), out.clone());
-    let answer = outcome(block::correct(p, read, &mut due), |Run { start, length }| {
-        (start, length)
-    });
-    let found = ffi::correct_block(numbers(p), read, &mut out);
-    assert_eq!((found, &out), ((answer.0, answer.2, answer.3), &due), "{p:?} {read:?}");
-    if let Some(made) = profile(p) {
-        out = before;
-        let result = made.correct_block(read, &mut out);
-        assert_eq!(outcome(result, |run| (run.start, run.length)), answer);
-        assert_eq!(out, due);
-    }
-    answer
+    correct_in(Mode::Burst, random, p, read, length).0
 }
 
-/// Corrects a block in spot mode into a buffer of `length` bytes with both: the number of cells changed and the lowest of them are the
-/// values. The bytes of the buffer afterwards come too.
+/// The same in spot mode: the number of cells changed and the lowest of them are the values. The bytes of the buffer afterwards come too.
 pub fn correct_spots(random: &mut Random, p: &Profile, read: &[u8], length: usize) -> (Answer, Vec<u8>) {
+    correct_in(Mode::Spots, random, p, read, length)
+}
+
+/// Corrects a block in this mode into a buffer of `length` bytes with both. The bytes of the buffer afterwards come too.
+pub fn correct_in(mode: Mode, random: &mut Random, p: &Profile, read: &[u8], length: usize) -> (Answer, Vec<u8>) {
     let mut out = random.bytes(length);
     let (mut due, before) = (out.clone(), out.clone());
-    let answer = outcome(spots::correct(p, read, &mut due), |changes| {
-        (changes.count, changes.lowest)
-    });
-    let found = ffi::correct_spots(numbers(p), read, &mut out);
+    let answer = outcome(mode.correct(p, read, &mut due), |values| values);
+    let found = ffi::correct_block(library_mode(mode), numbers(p), read, &mut out);
     assert_eq!((found, &out), ((answer.0, answer.2, answer.3), &due), "{p:?} {read:?}");
     if let Some(made) = profile(p) {
         out = before;
-        let result = made.correct_spots(read, &mut out);
-        assert_eq!(outcome(result, |changes| (changes.count, changes.lowest)), answer);
-        assert_eq!(out, due);
+        let again = match mode {
+            Mode::Burst => outcome(made.correct_block(read, &mut out), |run| (run.start, run.length)),
+            Mode::Spots => outcome(made.correct_spots(read, &mut out), |changes| {
+                (changes.count, changes.lowest)
+            }),
+        };
+        assert_eq!((again, &out), (answer, &due));
     }
     (answer, due)
 }

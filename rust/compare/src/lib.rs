@@ -55,3 +55,11 @@ pub fn profile(p: &second::Profile) -> Option<tishwabe::Profile> {
 pub fn numbers(p: &second::Profile) -> [usize; 5] {
     [p.n, p.r, p.b, p.limit, p.depth]
 }
+
+/// The library's mode of the same name.
+pub fn library_mode(mode: second::Mode) -> tishwabe::Mode {
+    match mode {
+        second::Mode::Burst => tishwabe::Mode::Burst,
+        second::Mode::Spots => tishwabe::Mode::Spots,
+    }
+}

@@ -1,6 +1,6 @@
 //! Entries on a sheet.
 
-use crate::{draw, numbers, outcome, profile, Answer};
+use crate::{draw, library_mode, numbers, outcome, profile, Answer};
 use second::random::Random;
 use second::{sheet, Mode, Profile};
 use tishwabe::ffi;
@@ -26,14 +26,6 @@ pub fn write(random: &mut Random, p: &Profile, payload: &[u8], length: usize) ->
 /// Reads a sheet with both in document 01's mode.
 pub fn read(random: &mut Random, p: &Profile, cells: &[u8], lengths: (usize, usize)) -> (Answer, Vec<u8>) {
     read_in(Mode::Burst, random, p, cells, lengths)
-}
-
-/// The library's mode of the same name.
-fn library_mode(mode: Mode) -> tishwabe::Mode {
-    match mode {
-        Mode::Burst => tishwabe::Mode::Burst,
-        Mode::Spots => tishwabe::Mode::Spots,
-    }
 }
 
 /// Reads a sheet with both, with a scratch and a payload buffer of these lengths: the number of blocks changed is the first value. The bytes of

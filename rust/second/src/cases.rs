@@ -7,18 +7,31 @@ use crate::plot::record;
 /// Number and place of a refusal.
 pub type Place = (u8, usize);
 
-/// A row of document 01's table of read blocks.
+/// The codeword and two numbers of a corrected block, or the refusal's number. The numbers are start and length of the run, in spot mode the number
+/// of cells changed and the lowest of them.
+type Corrected = Result<([u8; 4], usize, usize), u8>;
+
+/// A row of a table of read blocks.
 pub struct Correction {
     pub profile: Profile,
     pub read: [u8; 4],
-    /// The codeword, start and length, or the refusal's number.
-    pub expected: Result<([u8; 4], usize, usize), u8>,
+    pub expected: Corrected,
 }
 
-/// Document 01's table of read blocks, for n=4, r=3, b=0.
+/// A table for n=4, r=3, b=0 from read blocks, L and what they go to.
+fn table<const N: usize>(rows: [([u8; 4], usize, Corrected); N]) -> Vec<Correction> {
+    let row = |(read, limit, expected)| Correction {
+        profile: Profile::from([4, 3, 0, limit, 1]),
+        read,
+        expected,
+    };
+    rows.map(row).into()
+}
+
+/// Document 01's table of read blocks.
 pub fn corrections() -> Vec<Correction> {
     let codeword = [8, 14, 7, 1];
-    let rows = [
+    table([
         (codeword, 0, Ok((codeword, 0, 0))),
         ([9, 14, 7, 1], 1, Ok((codeword, 0, 1))),
         ([9, 14, 7, 1], 0, Err(3)),
@@ -29,28 +42,14 @@ pub fn corrections() -> Vec<Correction> {
         ([9, 14, 7, 0], 2, Err(3)),
         (codeword, 3, Err(1)),
         ([9, 14, 7, 0], 3, Err(1)),
-    ];
-    let row = |(read, limit, expected)| Correction {
-        profile: Profile::from([4, 3, 0, limit, 1]),
-        read,
-        expected,
-    };
-    rows.map(row).into()
+    ])
 }
 
-/// A block read in spot mode.
-pub struct SpotCorrection {
-    pub profile: Profile,
-    pub read: [u8; 4],
-    /// The codeword, the number of cells changed and the lowest of them, or the refusal's number.
-    pub expected: Result<([u8; 4], usize, usize), u8>,
-}
-
-/// Document 01's read blocks and others in spot mode, for n=4, r=3, b=0: h is 1 and two codewords differ in all four cells, so a block
-/// is within one cell of a multiple of 8 14 7 1 or is refused. Twice it is 16 28 14 2.
-pub fn spot_corrections() -> Vec<SpotCorrection> {
+/// Document 01's read blocks and others in spot mode: h is 1 and two codewords differ in all four cells, so a block is within one cell of a multiple
+/// of 8 14 7 1 or is refused. Twice it is 16 28 14 2.
+pub fn spot_corrections() -> Vec<Correction> {
     let codeword = [8, 14, 7, 1];
-    let rows = [
+    table([
         (codeword, 0, Ok((codeword, 0, 0))),
         ([9, 14, 7, 1], 0, Ok((codeword, 1, 0))),
         ([9, 14, 7, 1], 2, Ok((codeword, 1, 0))),
@@ -67,13 +66,7 @@ pub fn spot_corrections() -> Vec<SpotCorrection> {
         ([8, 14, 14, 2], 2, Err(11)),
         (codeword, 3, Err(1)),
         ([9, 14, 7, 0], 3, Err(1)),
-    ];
-    let row = |(read, limit, expected)| SpotCorrection {
-        profile: Profile::from([4, 3, 0, limit, 1]),
-        read,
-        expected,
-    };
-    rows.map(row).into()
+    ])
 }
 
 /// Document 01's written blocks, for n=5, r=2, b=1: profile, message, codeword.

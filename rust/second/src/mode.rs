@@ -15,11 +15,11 @@ pub enum Mode {
 impl Mode {
     pub const ALL: [Mode; 2] = [Mode::Burst, Mode::Spots];
 
-    /// Corrects a block in this mode.
-    pub fn correct(self, profile: &Profile, read: &[u8], corrected: &mut [u8]) -> Result<(), Refusal> {
+    /// Corrects a block in this mode: start and length of the run, or the number of cells changed and the lowest of them.
+    pub fn correct(self, profile: &Profile, read: &[u8], corrected: &mut [u8]) -> Result<(usize, usize), Refusal> {
         match self {
-            Mode::Burst => block::correct(profile, read, corrected).map(|_| ()),
-            Mode::Spots => spots::correct(profile, read, corrected).map(|_| ()),
+            Mode::Burst => block::correct(profile, read, corrected).map(|run| (run.start, run.length)),
+            Mode::Spots => spots::correct(profile, read, corrected).map(|changes| (changes.count, changes.lowest)),
         }
     }
 }

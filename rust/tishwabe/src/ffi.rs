@@ -154,12 +154,21 @@ pub fn check_block([n, r, b, limit, depth]: Numbers, read: &[u8]) -> (usize, usi
     (number, clean)
 }
 
-/// The refusal's number, or 0; then start and length of the run.
-pub fn correct_block([n, r, b, limit, depth]: Numbers, read: &[u8], out: &mut [u8]) -> (usize, usize, usize) {
-    let (mut start, mut length) = (0, 0);
+/// The refusal's number, or 0; then start and length of the run, or in spot mode the number of cells changed and the lowest of them.
+pub fn correct_block(
+    mode: Mode,
+    [n, r, b, limit, depth]: Numbers,
+    read: &[u8],
+    out: &mut [u8],
+) -> (usize, usize, usize) {
+    let corrector = match mode {
+        Mode::Burst => library::tishwabe_correct_block,
+        Mode::Spots => library::tishwabe_correct_spots,
+    };
+    let (mut first, mut second) = (0, 0);
     let (from, to) = (read.as_ptr(), out.as_mut_ptr());
     let number = unsafe {
-        library::tishwabe_correct_block(
+        corrector(
             n,
             r,
             b,
@@ -169,33 +178,11 @@ pub fn correct_block([n, r, b, limit, depth]: Numbers, read: &[u8], out: &mut [u
             read.len(),
             to,
             out.len(),
-            &mut start,
-            &mut length,
+            &mut first,
+            &mut second,
         )
     };
-    (number, start, length)
-}
-
-/// The refusal's number, or 0; then the number of cells changed, and the lowest of them.
-pub fn correct_spots([n, r, b, limit, depth]: Numbers, read: &[u8], out: &mut [u8]) -> (usize, usize, usize) {
-    let (mut count, mut lowest) = (0, 0);
-    let (from, to) = (read.as_ptr(), out.as_mut_ptr());
-    let number = unsafe {
-        library::tishwabe_correct_spots(
-            n,
-            r,
-            b,
-            limit,
-            depth,
-            from,
-            read.len(),
-            to,
-            out.len(),
-            &mut count,
-            &mut lowest,
-        )
-    };
-    (number, count, lowest)
+    (number, first, second)
 }
 
 /// The refusal's number, or 0.

@@ -147,7 +147,7 @@ impl Profile {
     /// # Ok::<(), Error>(())
     /// ```
     pub fn correct_block(&self, read: &[u8], out: &mut [u8]) -> Result<Run, Error> {
-        let (number, start, length) = ffi::correct_block(self.numbers, read, out);
+        let (number, start, length) = ffi::correct_block(Mode::Burst, self.numbers, read, out);
         accepted(number, 0, Run { start, length })
     }
 
@@ -164,7 +164,7 @@ impl Profile {
     /// # Ok::<(), Error>(())
     /// ```
     pub fn correct_spots(&self, read: &[u8], out: &mut [u8]) -> Result<Changes, Error> {
-        let (number, count, lowest) = ffi::correct_spots(self.numbers, read, out);
+        let (number, count, lowest) = ffi::correct_block(Mode::Spots, self.numbers, read, out);
         accepted(number, 0, Changes { count, lowest })
     }
 
