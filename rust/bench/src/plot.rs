@@ -79,6 +79,12 @@ fn drawn(panel: &Panel, left: f64) -> String {
             bottom + 15.0
         );
     }
+    svg + &curves(panel, left, x, y)
+}
+
+/// The curves of a panel, each with its name above the panel; `x` and `y` say where a number lies.
+fn curves(panel: &Panel, left: f64, x: impl Fn(f64) -> f64, y: impl Fn(f64) -> f64) -> String {
+    let mut svg = String::new();
     for (k, (name, colour)) in [
         ("writing", "#1b6ca8"),
         ("checking", "#2e8b57"),
