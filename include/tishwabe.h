@@ -63,7 +63,7 @@ size_t tishwabe_check_block(size_t n, size_t r, size_t b, size_t limit, size_t d
                             const uint8_t *read, size_t read_length, /* n */
                             size_t *clean);
 
-/* Corrects a block: the codeword of the shortest run goes to out; *start and *length are that run, 0 and 0 for a clean block. */
+/* Corrects a block in scratch mode: the codeword of the shortest run goes to out; *start and *length are that run, 0 and 0 for a clean block. */
 size_t tishwabe_correct_block(size_t n, size_t r, size_t b, size_t limit, size_t depth,
                               const uint8_t *read, size_t read_length, /* n */
                               uint8_t *out, size_t out_length,         /* n */
@@ -84,9 +84,9 @@ size_t tishwabe_write_sheet(size_t n, size_t r, size_t b, size_t limit, size_t d
                             const uint8_t *payload, size_t payload_length, /* D * k */
                             uint8_t *sheet, size_t sheet_length);          /* D * n */
 
-/* Reads a sheet: every block is corrected before a byte of the payload is written. *changed is the number of blocks changed. Refusals 1 to
- * 4; *place is then the number of the lowest block that is refused by 3 or 4, and else 0. The scratch is all zero after every result but
- * refusals 1 and 2, which leave it as it was. */
+/* Reads a sheet in scratch mode: every block is corrected before a byte of the payload is written. *changed is the number of blocks changed.
+ * Refusals 1 to 4; *place is then the number of the lowest block that is refused by 3 or 4, and else 0. The buffer scratch is all zero after
+ * every result but refusals 1 and 2, which leave it as it was. */
 size_t tishwabe_read_sheet(size_t n, size_t r, size_t b, size_t limit, size_t depth,
                            const uint8_t *sheet, size_t sheet_length,   /* D * n */
                            uint8_t *scratch, size_t scratch_length,     /* D * n */

@@ -6,9 +6,9 @@ use crate::spots;
 
 #[derive(Clone, Copy, Debug, PartialEq, Eq)]
 pub enum Mode {
-    /// Document 01: the codeword within the shortest run.
+    /// Scratch mode, as the pages call it, document 01: the codeword within the shortest run.
     Burst,
-    /// Document 02, Note 1: the codeword that differs in the fewest cells.
+    /// Spot mode, document 02, Note 1: the codeword that differs in the fewest cells.
     Spots,
 }
 

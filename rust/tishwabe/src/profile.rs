@@ -33,9 +33,9 @@ pub struct Changes {
 /// How a sheet is read: which codeword a block goes to.
 #[derive(Clone, Copy, Debug, PartialEq, Eq, Hash)]
 pub enum Mode {
-    /// Scratches, document 01: the codeword within the shortest run of up to L cells. Refusals 3 and 4.
+    /// Scratch mode, as the pages call it, document 01: the codeword within the shortest run of up to L cells. Refusals 3 and 4.
     Burst,
-    /// Spots, document 02: the codeword that differs in the fewest cells, up to h anywhere; L has no effect. Refusal 11.
+    /// Spot mode, document 02: the codeword that differs in the fewest cells, up to h anywhere; L has no effect. Refusal 11.
     Spots,
 }
 
@@ -133,8 +133,8 @@ impl Profile {
         accepted(number, 0, clean == 1)
     }
 
-    /// Corrects a block: n cells read, and the codeword within the shortest run written to the n bytes of `out`. A refusal leaves
-    /// `out` as it was.
+    /// Corrects a block in scratch mode: n cells read, and the codeword within the shortest run of up to L cells written to the n bytes of
+    /// `out`. A refusal leaves `out` as it was.
     ///
     /// ```
     /// use tishwabe::{Error, Profile, Run};
@@ -182,8 +182,8 @@ impl Profile {
         accepted(ffi::write_sheet(self.numbers, payload, sheet), 0, ())
     }
 
-    /// Reads a sheet of D × n cells into a payload of D × k bytes: the number of blocks changed. The scratch of D × n bytes is all
-    /// zero afterwards, unless the lengths are refused. A refusal leaves `payload` as it was.
+    /// Reads a sheet of D × n cells in scratch mode into a payload of D × k bytes: the number of blocks changed. The buffer `scratch` of D × n
+    /// bytes is all zero afterwards, unless the lengths are refused. A refusal leaves `payload` as it was.
     ///
     /// ```
     /// use tishwabe::{Error, Profile};
