@@ -1,12 +1,13 @@
 -- In spot mode two profiles that differ in L alone read every sheet alike: each block's verdict and codeword read n, r and b only, and all else is made
 -- of these, of the depth, and of k.
 use mathlib.Core.Path.{_≡_, refl, sym, ap, _∙_}
+use mathlib.Core.Bool.{Bool}
 use mathlib.Core.List.{List}
 use Prim.Native.Nat.{ℕ, zero, suc, _+_}
 use lib.ListN.{length, drop}
 use Rattle.profile.specs.Profile.{InRange, messageLength}
 use Rattle.profile.specs.Refusals.{refusing}
-use Rattle.profile.proofs.Ranges.{in-range}
+use Rattle.profile.proofs.Refusing.{same-refusing}
 use Rattle.profile.specs.declared.Profile.{Profile}
 use Rattle.spots.proofs.Answers.{same-verdict, same-word}
 use Rattle.sheet.specs.declared.Mode.the-variants.{Spots}
@@ -41,7 +42,10 @@ module _ (p q : Profile) (sheet : List ℕ) (en : p .n ≡ q .n) (er : p .r ≡ 
   payloads = same-joined (p .depth) (messageLength p) _ _ (λ d l. ap (drop (p .r)) (words d)) ∙ rw (en, er, ed)
 
   module _ (scratch out : List ℕ) (v : InRange p) (w : InRange q) where
-    fit : readFits p (length sheet) (length scratch) (length out) ≡ readFits q (length sheet) (length scratch) (length out)
+    abbrev fits : Profile → Bool
+    fits x = readFits x (length sheet) (length scratch) (length out)
+
+    fit : fits p ≡ fits q
     unfolding readFits
     fit = rw (en, er, ed)
 
@@ -49,17 +53,21 @@ module _ (p q : Profile) (sheet : List ℕ) (en : p .n ≡ q .n) (er : p .r ≡ 
     unfolding sheetAnswer
     answer = answers (p .depth) 0 0 ∙ ap (λ (D : ℕ). answerFrom Spots q sheet D 0 0) ed
 
+    -- answer, scratch and payload are each chosen alike
+    alike : {A : Type 0} (one two x y : A) → x ≡ y → refusing p (fits p) one two x ≡ refusing q (fits q) one two y
+    alike one two x y e = same-refusing p q (fits p) (fits q) one two x y v w fit e
+
     read-answer : readAnswer Spots p sheet scratch out ≡ readAnswer Spots q sheet scratch out
-    unfolding readAnswer refusing
-    read-answer = rw (in-range p .1 v, in-range q .1 w, fit, answer)
+    unfolding readAnswer
+    read-answer = alike _ _ _ _ answer
 
     read-scratch : readScratch Spots p sheet scratch out ≡ readScratch Spots q sheet scratch out
-    unfolding readScratch refusing
-    read-scratch = rw (in-range p .1 v, in-range q .1 w, fit)
+    unfolding readScratch
+    read-scratch = alike _ _ _ _ refl
 
     read-payload : readPayload Spots p sheet scratch out ≡ readPayload Spots q sheet scratch out
-    unfolding readPayload refusing
-    read-payload = rw (in-range p .1 v, in-range q .1 w, fit, answer, payloads)
+    unfolding readPayload
+    read-payload = alike _ _ _ _ (rw (answer, payloads))
 
 pub sheet-limit-free : SheetLimitFree
 sheet-limit-free p q sheet scratch out v w en er eb ed =

@@ -19,9 +19,11 @@ pub struct Elimination {
     given: usize,
     /// v reduced by the pivots so far, then the combination taken from it.
     target: Vec<u8>,
-    /// Each with its pivot row, where it holds 1 and all later ones hold 0.
-    pivots: Vec<(usize, Vec<u8>)>,
+    pivots: Vec<Pivot>,
 }
+
+/// A column with its pivot row, where it holds 1 and all later ones hold 0.
+type Pivot = (usize, Vec<u8>);
 
 impl Elimination {
     /// The system with this v and no column yet; at most `most` columns will come.
@@ -43,18 +45,10 @@ impl Elimination {
         vector.resize(self.target.len(), 0);
         vector[self.rows + self.given] = 1;
         self.given += 1;
-        for (row, pivot) in &self.pivots {
-            clear(*row, pivot, &mut vector);
+        if let Some(pivot) = next_pivot(&self.pivots, self.rows, vector) {
+            clear(&pivot, &mut self.target);
+            self.pivots.push(pivot);
         }
-        let Some(row) = vector[..self.rows].iter().position(|&x| x != 0) else {
-            return;
-        };
-        let factor = inverse(vector[row]).expect("a pivot is not zero");
-        for x in &mut vector {
-            *x = products()[usize::from(factor)][usize::from(*x)];
-        }
-        clear(row, &vector, &mut self.target);
-        self.pivots.push((row, vector));
     }
 
     /// The solutions with the columns given so far.
@@ -72,17 +66,29 @@ impl Elimination {
 
 /// The rank of a matrix, given by its columns.
 pub fn rank(columns: &[&[u8]]) -> usize {
-    let rows = columns.first().map_or(0, |column| column.len());
-    let mut system = Elimination::new(&vec![0; rows], columns.len());
+    let mut pivots = Vec::new();
     for column in columns {
-        system.add_column(column);
+        pivots.extend(next_pivot(&pivots, column.len(), column.to_vec()));
     }
-    system.pivots.len()
+    pivots.len()
 }
 
-/// Adds the multiple of the pivot column that makes the vector's entry in this row zero.
-fn clear(row: usize, pivot: &[u8], vector: &mut [u8]) {
-    let factor = vector[row];
+/// What the pivots leave of a column, as a pivot of its own; none if they leave nothing in its first so many rows.
+fn next_pivot(pivots: &[Pivot], rows: usize, mut column: Vec<u8>) -> Option<Pivot> {
+    for pivot in pivots {
+        clear(pivot, &mut column);
+    }
+    let row = column[..rows].iter().position(|&x| x != 0)?;
+    let factor = inverse(column[row]).expect("a pivot is not zero");
+    for x in &mut column {
+        *x = products()[usize::from(factor)][usize::from(*x)];
+    }
+    Some((row, column))
+}
+
+/// Adds the multiple of the pivot that makes the vector's entry in its row zero.
+fn clear((row, pivot): &Pivot, vector: &mut [u8]) {
+    let factor = vector[*row];
     if factor == 0 {
         return;
     }

@@ -1,6 +1,6 @@
 //! Document 02, Note 1: a block goes to the codeword that differs from it in the fewest cells, up to h cells anywhere.
 //! Ranks tell which cells are wrong. If t cells are, at most h, put the syndromes into a square of h rows, each of which begins one syndrome later than the one
-//! above it. Each wrong cell adds to the square a column of powers times a row of powers; these t are independent, so the rank is t. Now take for each
+//! above it. Each wrong cell adds to the square a multiple, not zero, of a column of powers times a row of powers; these t are independent, so the rank is t. Now take for each
 //! two neighbouring syndromes the later one plus α^j times the earlier one. That multiplies the error at each cell e by α^e+α^j: it removes the one at cell j
 //! and keeps the others. So the square of these numbers has a smaller rank exactly if cell j is wrong. What to add to the wrong cells is the
 //! solution of their columns against the syndromes. Where more than h cells lower the rank, or there is no solution, no codeword is within h cells.
@@ -62,10 +62,10 @@ fn wrong_cells(profile: &Profile, syndromes: &[u8]) -> Vec<usize> {
         .collect()
 }
 
-/// The rank of the square whose rows are the first h runs of h numbers.
+/// The rank of the square whose rows are the first h runs of h numbers; its columns are the same.
 fn square_rank(h: usize, numbers: &[u8]) -> usize {
-    let columns: Vec<&[u8]> = numbers.windows(h).take(h).collect();
-    rank(&columns)
+    let rows: Vec<&[u8]> = numbers.windows(h).take(h).collect();
+    rank(&rows)
 }
 
 /// Syndromes, one fewer, to which an error at this cell adds nothing.
