@@ -125,8 +125,8 @@ size_t tishwabe_list(const uint8_t *payload, size_t payload_length, size_t chang
 size_t tishwabe_list_refusal(uint8_t number, size_t place, uint8_t *text, size_t text_length);
 
 /* The whole answer of the plot lister: the text for its standard input, the bytes n, r, b, L and D and then the sheet's D * n cells. The
- * sheet is read, and the text is that of its payload with the number of blocks changed, or that of the refusal; fewer than five bytes are
- * refusal 1, another number of cells refusal 2. The buffers of the reader are on the stack, 8,128 bytes. */
+ * sheet is read in scratch mode, and the text is that of its payload with the number of blocks changed, or that of the refusal; fewer than
+ * five bytes are refusal 1, another number of cells refusal 2. The buffers of the reader are on the stack, 8,128 bytes. */
 size_t tishwabe_list_input(const uint8_t *input, size_t input_length, uint8_t *text, size_t text_length);
 
 #ifdef __cplusplus

@@ -83,7 +83,7 @@ pub fn list_refusal(error: Error) -> String {
     text(&bytes, length)
 }
 
-/// The lister's whole answer: the text for the bytes of its standard input, n, r, b, L and D and then the sheet.
+/// The lister's whole answer: the text for the bytes of its standard input, n, r, b, L and D and then the sheet, which is read in scratch mode.
 ///
 /// ```
 /// let cells = [0xF0, 0xD4, 9, 0, 3, 5, 0x60, 6, 0x50, 0x4C, 7, 0, 1, 3, 32, 2];
