@@ -12,16 +12,17 @@ use lib.Seq.{drop-cons, drop-drop}
 use lib.Dec.{ltb, eqb}
 use borrow.Author.Tests.{le-ltb, lt-ltb, le-leb, lt-leb, eq-eqb, ne-eqb, ltb-false, eqb-false, not-false}
 use Rattle.plot.specs.declared.Cursor.{Cursor}
-use Rattle.plot.specs.declared.Line.{Line}
+use Rattle.plot.specs.declared.LinesCheck.{LinesCheck}
 use Rattle.plot.specs.declared.Refusal.{Refusal}
-use Rattle.plot.specs.declared.Refusal.the-variants.{WrongLength, BadMark, CutShort, BadTally, PlotOrder}
+use Rattle.plot.specs.declared.Refusal.the-variants.{WrongLength, BadMark, CutShort, PlotOrder}
 use Rattle.plot.specs.declared.Step.{Step}
 use Rattle.plot.specs.declared.Step.the-variants.{Record, End, Refused}
 use Rattle.plot.specs.declared.Checked.the-variants as checked-as
 use Rattle.lists.specs.Choice.{pick}
-use Rattle.plot.specs.Layout.{Plot, mark, headerLength, plotOf, countOf, recordLength, lineOf, noLine, within, rises, lineHolds, linesHold}
-use Rattle.plot.specs.Grammar.{allZero, agree, headAt, stepAt, Parsed, Plots, Stopped, onto, readStep, readFrom, longest, reading}
+use Rattle.plot.specs.Layout.{Plot, mark, headerLength, plotOf, countOf, recordLength, noLine, figureNumber, linesCheck, linesHold}
+use Rattle.plot.specs.Grammar.{allZero, agree, badLine, badRecord, headAt, stepAt, Parsed, Plots, Stopped, onto, readStep, readFrom, longest, reading}
 use Rattle.plot.specs.Answers.{checkedOf}
+use Rattle.plot.proofs.Lines.{not-held, all-held}
 
 -- zeros to the end
 module _ (s : List ℕ) (i : ℕ) where
@@ -77,7 +78,7 @@ module _ (at : ℕ) (s : List ℕ) where
     head-short h = rw (h1, lt-ltb _ _ h)
 
     module _ (h2 : 5 ≤ length s) where
-      pub head-lines : 40 < getD s 4 0 → Refused (BadTally at) ≡ headAt at s
+      pub head-lines : 40 < getD s 4 0 → Refused (badRecord at) ≡ headAt at s
       unfolding headAt
       head-lines h = rw (h1, le-ltb _ _ h2, lt-ltb _ _ h)
 
@@ -87,7 +88,7 @@ module _ (at : ℕ) (s : List ℕ) where
         head-cut h = rw (h1, le-ltb _ _ h2, le-ltb _ _ h3, lt-ltb _ _ h)
 
         module _ (h4 : recordLength (countOf s) ≤ length s) where
-          pub head-plot : plotOf s ≡ 0 → Refused (BadTally at) ≡ headAt at s
+          pub head-plot : plotOf s ≡ 0 → Refused (badRecord at) ≡ headAt at s
           unfolding headAt
           head-plot h = rw (h1, le-ltb _ _ h2, le-ltb _ _ h3, le-ltb _ _ h4, eq-eqb _ _ h)
 
@@ -117,61 +118,6 @@ module _ (at : ℕ) (s : List ℕ) where
     pub step-tail : getD s at 0 ≡ 0 → allZero (drop at s) ≡ false → Refused (BadMark at) ≡ stepAt at (drop at s)
     unfolding stepAt
     step-tail h z = rw (first, eq-eqb _ _ h, z)
-
--- one line
-module _ (before line : Line) where
-  pub rises-species : before .species < line .species → true ≡ rises before line
-  unfolding rises
-  rises-species h = rw (lt-ltb _ _ h)
-
-  module _ (h1 : line .species ≤ before .species) where
-    pub rises-not : (before .species ≡ line .species → ⊥) → false ≡ rises before line
-    unfolding rises
-    rises-not h = rw (le-ltb _ _ h1, ne-eqb _ _ h)
-
-    pub rises-class : before .species ≡ line .species → ltb (before .class) (line .class) ≡ rises before line
-    unfolding rises
-    rises-class h = rw (le-ltb _ _ h1, eq-eqb _ _ h)
-
-  pub line-species : within 1 99 (line .species) ≡ false → false ≡ lineHolds before line
-  unfolding lineHolds
-  line-species h = rw h
-
-  module _ (h1 : within 1 99 (line .species) ≡ true) where
-    pub line-class : within 1 200 (line .class) ≡ false → false ≡ lineHolds before line
-    unfolding lineHolds
-    line-class h = rw (h1, h)
-
-    module _ (h2 : within 1 200 (line .class) ≡ true) where
-      pub line-count : within 1 255 (line .count) ≡ false → false ≡ lineHolds before line
-      unfolding lineHolds
-      line-count h = rw (h1, h2, h)
-
-      pub line-rise : within 1 255 (line .count) ≡ true → rises before line ≡ lineHolds before line
-      unfolding lineHolds
-      line-rise h = rw (h1, h2, h)
-
--- the lines in turn: k lines whose bytes begin at `from`, of which i are passed
-module _ (before : Line) (k i : ℕ) (s : List ℕ) (from : ℕ) where
-  pub lines-end : k ≤ i → linesHold before (k - i) (drop (from + i * 3) s) ≡ true
-  unfolding linesHold
-  lines-end h =
-      let z : k - i ≡ 0 = omega arith in
-      rw z
-
-  module _ (h : i < k) (line : Line) (e : line ≡ lineOf (drop (from + i * 3) s)) where
-    left : k - i ≡ suc (k - (i + 1))
-    left = omega arith
-
-    pub lines-not : lineHolds before line ≡ false → linesHold before (k - i) (drop (from + i * 3) s) ≡ false
-    unfolding linesHold
-    lines-not g = rw (left, ← e, g)
-
-    pub lines-on : lineHolds before line ≡ true → linesHold before (k - i) (drop (from + i * 3) s) ≡ linesHold line (k - (i + 1)) (drop (from + (i + 1) * 3) s)
-    unfolding linesHold
-    lines-on g =
-        let z : from + i * 3 + 3 ≡ from + (i + 1) * 3 = omega arith in
-        rw (left, ← e, g, drop-drop 3 (from + i * 3) s, z)
 
 -- a refused record has a byte
 pub refused-some : (at : ℕ) (s : List ℕ) (r : Refusal) → stepAt at s ≡ Refused r → 0 < length s
@@ -253,7 +199,8 @@ module _ (at last : ℕ) (s : List ℕ) where
     abbrev pub plotHere : Plot
     plotHere = record { number = next .last; lines = take (count * 3) (drop headerLength s) }
 
-    pub read-lines : (f : ℕ) → 0 < f → linesHold noLine count (drop headerLength s) ≡ false → readFrom f at last s ≡ Stopped (BadTally at)
+    pub read-lines : (f : ℕ) → 0 < f → linesHold noLine count (drop headerLength s) ≡ false
+        → readFrom f at last s ≡ Stopped (badLine at (linesCheck noLine 0 count (drop headerLength s)))
     unfolding readFrom readStep
     read-lines zero h g = absurd (not-suc-le-zero h)
     read-lines (suc f) h g = rw (e, g)
@@ -322,22 +269,27 @@ module _ (s : List ℕ) (at last f from count : ℕ) (next : Cursor) (e : stepAt
         let inside₀ : next .at ≤ length s = b .inside in
         omega arith
 
-    pub turn-lines : linesHold noLine count (drop from s) ≡ false → readFrom f at last (drop at s) ≡ Stopped (BadTally at)
-    turn-lines g = read-lines at last (drop at s) from count next e f steps (rw (past-header at from s (bounds .lines-at)) g)
+    -- the lines of the record, checked in turn
+    module _ (found : LinesCheck) (is : linesCheck noLine 0 count (drop from s) ≡ found) where
+      is-here : linesCheck noLine 0 count (drop headerLength (drop at s)) ≡ found
+      is-here = rw (past-header at from s (bounds .lines-at)) is
 
-    module _ (g : linesHold noLine count (drop from s) ≡ true) where
-      hold : linesHold noLine count (drop headerLength (drop at s)) ≡ true
-      hold = rw (past-header at from s (bounds .lines-at)) g
+      pub turn-lines : (figureNumber (found .check) ≡ 0 → ⊥) → readFrom f at last (drop at s) ≡ Stopped (badLine at found)
+      turn-lines g = read-lines at last (drop at s) from count next e f steps (not-held noLine count _ found is-here g) ∙ ap (λ (l : LinesCheck). Stopped (badLine at l)) is-here
 
-      pub turn-order : next .last ≤ last → readFrom f at last (drop at s) ≡ Stopped (PlotOrder at)
-      turn-order o = read-order at last (drop at s) from count next e hold f steps o
+      module _ (g : figureNumber (found .check) ≡ 0) where
+        hold : linesHold noLine count (drop headerLength (drop at s)) ≡ true
+        hold = all-held noLine count _ found is-here g
 
-      pub turn-on : last < next .last → readFrom f at last (drop at s)
-          ≡ onto (plotHere at last (drop at s) from count next e) (readFrom (f - 1) (next .at) (next .last) (drop (next .at) s))
-      turn-on o =
-          read-on at last (drop at s) from count next e hold f steps o
-          ∙ ap (λ (t : List ℕ). onto (plotHere at last (drop at s) from count next e) (readFrom (f - 1) (next .at) (next .last) t))
-          (drop-drop (recordLength count) at s ∙ ap (λ (n : ℕ). drop n s) (bounds .past))
+        pub turn-order : next .last ≤ last → readFrom f at last (drop at s) ≡ Stopped (PlotOrder at)
+        turn-order o = read-order at last (drop at s) from count next e hold f steps o
+
+        pub turn-on : last < next .last → readFrom f at last (drop at s)
+            ≡ onto (plotHere at last (drop at s) from count next e) (readFrom (f - 1) (next .at) (next .last) (drop (next .at) s))
+        turn-on o =
+            read-on at last (drop at s) from count next e hold f steps o
+            ∙ ap (λ (t : List ℕ). onto (plotHere at last (drop at s) from count next e) (readFrom (f - 1) (next .at) (next .last) t))
+            (drop-drop (recordLength count) at s ∙ ap (λ (n : ℕ). drop n s) (bounds .past))
 
 -- the reading of a payload
 module _ (s : List ℕ) where
@@ -348,9 +300,3 @@ module _ (s : List ℕ) where
   pub reading-short : length s ≤ longest → reading s ≡ readFrom (length s) 0 0 s
   unfolding reading
   reading-short h = rw (le-ltb _ _ h)
-
-pub first-lines : (count from : ℕ) (s : List ℕ) → linesHold noLine count (drop from s) ≡ linesHold noLine (count - 0) (drop (from + 0 * 3) s)
-first-lines count from s =
-    let z : count - 0 ≡ count = omega arith in
-    let y : from + 0 * 3 ≡ from = omega arith in
-    rw (z, y)

@@ -11,18 +11,20 @@ use lib.Seq.{drop-drop}
 use lib.Dec.{leb, ltb, eqb}
 use borrow.Author.Tests.{le-ltb, lt-ltb, le-leb, lt-leb, eq-eqb, ne-eqb, ltb-false, leb-false, eqb-true, eqb-false, not-false}
 use Rattle.plot.specs.declared.Cursor.{Cursor}
+use Rattle.plot.specs.declared.LinesCheck.{LinesCheck}
 use Rattle.plot.specs.declared.Refusal.{Refusal}
-use Rattle.plot.specs.declared.Refusal.the-variants.{BadTally, PlotOrder, NoSuchPlot, Full}
+use Rattle.plot.specs.declared.Refusal.the-variants.{PlotOrder, NoSuchPlot, Full}
 use Rattle.plot.specs.declared.Step.the-variants.{Record, Refused}
 use Rattle.plot.specs.declared.Checked.the-variants as checked-as
 use Rattle.plot.specs.declared.Located.{Located}
 use Rattle.plot.specs.declared.Located.the-variants as located-as
 use Rattle.plot.specs.declared.Added.the-variants as added-as
 use Rattle.lists.proofs.Test.{pick-of}
-use Rattle.plot.specs.Layout.{Plot, recordLength, noLine, linesHold, linesOf, recordOf, bytesOf}
-use Rattle.plot.specs.Grammar.{stepAt, Parsed, Plots, Stopped, readFrom, longest, reading}
+use Rattle.plot.specs.Layout.{Plot, recordLength, noLine, figureNumber, linesCheck, linesHold, linesOf, recordOf, bytesOf}
+use Rattle.plot.specs.Grammar.{badLine, badRecord, stepAt, Parsed, Plots, Stopped, readFrom, longest, reading}
 use Rattle.plot.specs.Answers.{lastNumber, checkedOf, checked, seek, locatedOf, located, partOf, linesFit, roomFor, addedOf, added, payloadAfter, payloadWith}
 use Rattle.plot.specs.Numbers.{locatedStart}
+use Rattle.plot.proofs.Lines.{not-held, all-held}
 use Rattle.plot.proofs.Cases.{pick-out, bounds}
 use Rattle.plot.proofs.Accepts.{not-stopped, here, Accepts, accepts, length-here, Lies, lies}
 
@@ -153,42 +155,46 @@ begins-refused l r o e =
 
 -- where a plot may be added: the checks in turn
 module _ (size end last : ℕ) (p : Plot) where
-  pub add-long : 120 < length (p .lines) → added-as.Refused (BadTally end) ≡ roomFor size end last p
+  pub add-long : 120 < length (p .lines) → added-as.Refused (badRecord end) ≡ roomFor size end last p
   unfolding roomFor
   add-long h = rw (lt-ltb _ _ h)
 
   module _ (h1 : length (p .lines) ≤ 120) where
-    pub add-odd : (length (p .lines) % 3 ≡ 0 → ⊥) → added-as.Refused (BadTally end) ≡ roomFor size end last p
+    pub add-odd : (length (p .lines) % 3 ≡ 0 → ⊥) → added-as.Refused (badRecord end) ≡ roomFor size end last p
     unfolding roomFor
     add-odd h = rw (le-ltb _ _ h1, ne-eqb _ _ h)
 
     module _ (h2 : length (p .lines) % 3 ≡ 0) where
-      pub add-zero-plot : p .number ≡ 0 → added-as.Refused (BadTally end) ≡ roomFor size end last p
+      pub add-zero-plot : p .number ≡ 0 → added-as.Refused (badRecord end) ≡ roomFor size end last p
       unfolding roomFor
       add-zero-plot h = rw (le-ltb _ _ h1, eq-eqb (length (p .lines) % 3) 0 h2, eq-eqb (p .number) 0 h)
 
       module _ (h3 : p .number ≡ 0 → ⊥) where
-        pub add-lines : linesHold noLine (linesOf p) (p .lines) ≡ false → added-as.Refused (BadTally end) ≡ roomFor size end last p
-        unfolding roomFor
-        add-lines h = rw (le-ltb _ _ h1, eq-eqb (length (p .lines) % 3) 0 h2, ne-eqb (p .number) 0 h3, h)
-
-        module _ (h4 : linesHold noLine (linesOf p) (p .lines) ≡ true) where
-          pub add-order : p .number ≤ last → added-as.Refused (PlotOrder end) ≡ roomFor size end last p
+        module _ (found : LinesCheck) (e : found ≡ linesCheck noLine 0 (linesOf p) (p .lines)) where
+          pub add-lines : (figureNumber (found .check) ≡ 0 → ⊥) → added-as.Refused (badLine end found) ≡ roomFor size end last p
           unfolding roomFor
-          add-order h = rw (le-ltb _ _ h1, eq-eqb (length (p .lines) % 3) 0 h2, ne-eqb (p .number) 0 h3, h4, le-leb _ _ h)
+          add-lines h = rw (le-ltb _ _ h1, eq-eqb (length (p .lines) % 3) 0 h2, ne-eqb (p .number) 0 h3, not-held noLine (linesOf p) (p .lines) found (sym e) h, e)
 
-          module _ (h5 : last < p .number) where
-            pub add-full : size - end < 5 + length (p .lines) → added-as.Refused (Full end) ≡ roomFor size end last p
-            unfolding roomFor
-            add-full h =
-                let k : size - end < length (recordOf p) = omega arith in
-                rw (le-ltb _ _ h1, eq-eqb (length (p .lines) % 3) 0 h2, ne-eqb (p .number) 0 h3, h4, lt-leb _ _ h5, lt-ltb (size - end) (length (recordOf p)) k)
+          module _ (h4 : figureNumber (found .check) ≡ 0) where
+            hold : linesHold noLine (linesOf p) (p .lines) ≡ true
+            hold = all-held noLine (linesOf p) (p .lines) found (sym e) h4
 
-            pub add-here : 5 + length (p .lines) ≤ size - end → added-as.At end ≡ roomFor size end last p
+            pub add-order : p .number ≤ last → added-as.Refused (PlotOrder end) ≡ roomFor size end last p
             unfolding roomFor
-            add-here h =
-                let k : length (recordOf p) ≤ size - end = omega arith in
-                rw (le-ltb _ _ h1, eq-eqb (length (p .lines) % 3) 0 h2, ne-eqb (p .number) 0 h3, h4, lt-leb _ _ h5, le-ltb (size - end) (length (recordOf p)) k)
+            add-order h = rw (le-ltb _ _ h1, eq-eqb (length (p .lines) % 3) 0 h2, ne-eqb (p .number) 0 h3, hold, le-leb _ _ h)
+
+            module _ (h5 : last < p .number) where
+              pub add-full : size - end < 5 + length (p .lines) → added-as.Refused (Full end) ≡ roomFor size end last p
+              unfolding roomFor
+              add-full h =
+                  let k : size - end < length (recordOf p) = omega arith in
+                  rw (le-ltb _ _ h1, eq-eqb (length (p .lines) % 3) 0 h2, ne-eqb (p .number) 0 h3, hold, lt-leb _ _ h5, lt-ltb (size - end) (length (recordOf p)) k)
+
+              pub add-here : 5 + length (p .lines) ≤ size - end → added-as.At end ≡ roomFor size end last p
+              unfolding roomFor
+              add-here h =
+                  let k : length (recordOf p) ≤ size - end = omega arith in
+                  rw (le-ltb _ _ h1, eq-eqb (length (p .lines) % 3) 0 h2, ne-eqb (p .number) 0 h3, hold, lt-leb _ _ h5, le-ltb (size - end) (length (recordOf p)) k)
 
 pub no-plots : (ps : List Plot) (end at : ℕ) → Plots ps end ≡ Plots [] at → ps ≡ []
 no-plots ps end at e = cc

@@ -1,4 +1,5 @@
 pub mod Lists
+pub mod Lines
 pub mod Cases
 pub mod Accepts
 pub mod Entries

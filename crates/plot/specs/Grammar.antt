@@ -7,7 +7,9 @@ use mathlib.Core.List.{List, [], _∷_}
 use lib.ListN.{length, getD, take, drop}
 use lib.Dec.{ltb, leb, eqb}
 use Rattle.lists.specs.Choice.{pick}
-use Rattle.plot.specs.Layout.{Plot, mark, headerLength, plotOf, countOf, recordLength, noLine, linesHold}
+use Rattle.plot.specs.Layout.{Plot, mark, headerLength, plotOf, countOf, recordLength, noLine, linesCheck, linesHold}
+use Rattle.plot.specs.declared.LineCheck.the-variants.{Holds}
+use Rattle.plot.specs.declared.LinesCheck.{LinesCheck}
 use Rattle.plot.specs.declared.Refusal.{Refusal}
 use Rattle.plot.specs.declared.Refusal.the-variants.{WrongLength, BadMark, CutShort, BadTally, PlotOrder}
 use Rattle.plot.specs.declared.Step.{Step}
@@ -24,15 +26,23 @@ agree [] s = true
 agree (m ∷ ms) [] = true
 agree (m ∷ ms) (x ∷ s) = pick (eqb x m) (agree ms s) false
 
+-- a bad tally in a line: "beside number 7, with the line's index from 0"
+abbrev pub badLine : ℕ → LinesCheck → Refusal
+badLine place found = BadTally place (found .check) (found .index)
+
+-- and "For faults outside a line both are 0."
+abbrev pub badRecord : ℕ → Refusal
+badRecord place = BadTally place Holds 0
+
 -- "the checks are, in order: as much of the mark as the payload holds; the five header bytes are there; at most 40 lines; all lines are there; plot
 -- number not 0": the checks of a record before its lines
 unfoldable pub headAt : ℕ → List ℕ → Step
 headAt at s =
     pick (not (agree mark s)) (Refused (BadMark at))
     (pick (ltb (length s) headerLength) (Refused (CutShort at))
-    (pick (ltb 40 (countOf s)) (Refused (BadTally at))
+    (pick (ltb 40 (countOf s)) (Refused (badRecord at))
     (pick (ltb (length s) (recordLength (countOf s))) (Refused (CutShort at))
-    (pick (eqb (plotOf s) 0) (Refused (BadTally at))
+    (pick (eqb (plotOf s) 0) (Refused (badRecord at))
     (Record (at + headerLength) (countOf s) (record { at = at + recordLength (countOf s); last = plotOf s }))))))
 
 -- what stands at "a place in the payload": "If the byte there is zero, all later bytes must be zero. Otherwise the checks are ..": at the payload's end stands no byte, which counts as zero
@@ -55,7 +65,7 @@ unfoldable pub readStep : (ℕ → ℕ → List ℕ → Parsed) → ℕ → ℕ 
 readStep rest at last s End = Plots [] at
 readStep rest at last s (Refused r) = Stopped r
 readStep rest at last s (Record from count next) =
-    pick (not (linesHold noLine count (drop headerLength s))) (Stopped (BadTally at))
+    pick (not (linesHold noLine count (drop headerLength s))) (Stopped (badLine at (linesCheck noLine 0 count (drop headerLength s))))
     (pick (leb (next .last) last) (Stopped (PlotOrder at))
     (onto (record { number = next .last; lines = take (count * 3) (drop headerLength s) })
     (rest (next .at) (next .last) (drop (recordLength count) s))))

@@ -1,4 +1,5 @@
--- The bytes of one record (R1): mark, plot number, number of lines, lines of three bytes. A later edition of the record changes this file.
+-- The bytes of one record (R1): mark, plot number, number of lines, lines of three bytes; and the check of its lines (R2; document 02, Note 2). A later edition of
+-- the record changes this file.
 -- A list of bytes given to a reading here begins at the record's first byte.
 use Prim.Native.Nat.{ℕ, zero, suc, _+_, _*_, _/_, _%_}
 use mathlib.Core.Bool.{Bool, true, false, not}
@@ -7,6 +8,9 @@ use lib.ListN.{length, getD, drop}
 use lib.Dec.{ltb, leb, eqb}
 use Rattle.lists.specs.Choice.{pick}
 use Rattle.plot.specs.declared.Line.{Line}
+use Rattle.plot.specs.declared.LineCheck.{LineCheck}
+use Rattle.plot.specs.declared.LineCheck.the-variants.{Holds, Species, Class, Count, Order}
+use Rattle.plot.specs.declared.LinesCheck.{LinesCheck}
 
 -- "the two-byte mark 50 4C (hexadecimal)"
 abbrev pub mark : List ℕ
@@ -46,18 +50,36 @@ rises before line =
     pick (ltb (before .species) (line .species)) true
     (pick (eqb (before .species) (line .species)) (ltb (before .class) (line .class)) false)
 
--- the check of one line, "by species, class, count and then its rise": "species number 1 to 99, diameter class 1 to 200 .., tree count 1 to 255"
-unfoldable pub lineHolds : Line → Line → Bool
-lineHolds before line =
-    pick (not (within 1 99 (line .species))) false
-    (pick (not (within 1 200 (line .class))) false
-    (pick (not (within 1 255 (line .count))) false
-    (rises before line)))
+-- the check of one line, "by species, class, count and then its rise": "species number 1 to 99, diameter class 1 to 200 .., tree count 1 to 255". It "says what
+-- failed first"
+unfoldable pub lineCheck : Line → Line → LineCheck
+lineCheck before line =
+    pick (not (within 1 99 (line .species))) Species
+    (pick (not (within 1 200 (line .class))) Class
+    (pick (not (within 1 255 (line .count))) Count
+    (pick (not (rises before line)) Order Holds)))
 
--- "the lines in turn": `count` lines from the front of s on, after the line `before`
+-- "1 species, 2 class, 3 count, 4 the rise above the line before", and 0 where the line holds
+abbrev pub figureNumber : LineCheck → ℕ
+figureNumber Holds = 0
+figureNumber Species = 1
+figureNumber Class = 2
+figureNumber Count = 3
+figureNumber Order = 4
+
+abbrev pub lineHolds : Line → Line → Bool
+lineHolds before line = eqb (figureNumber (lineCheck before line)) 0
+
+-- "the lines in turn": `count` lines from the front of s on, after the line `before`, the first of them with the index i: the check of the first line that does not
+-- hold, "with the line's index from 0"; `Holds` and 0 where all hold
+unfoldable pub linesCheck : Line → ℕ → ℕ → List ℕ → LinesCheck
+linesCheck before i zero s = record { check = Holds; index = 0 }
+linesCheck before i (suc count) s =
+    pick (lineHolds before (lineOf s)) (linesCheck (lineOf s) (suc i) count (drop 3 s)) (record { check = lineCheck before (lineOf s); index = i })
+
+-- all of them hold
 unfoldable pub linesHold : Line → ℕ → List ℕ → Bool
-linesHold before zero s = true
-linesHold before (suc count) s = pick (lineHolds before (lineOf s)) (linesHold (lineOf s) count (drop 3 s)) false
+linesHold before count s = eqb (figureNumber (linesCheck before 0 count s .check)) 0
 
 -- a plot: its number, and the bytes of its lines, three a line
 pub record Plot : Type 0 where

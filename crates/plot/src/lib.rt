@@ -6,12 +6,13 @@ mod tally;
 
 use record::HEADER;
 use record::all_zero;
+use record::bad_record;
 use record::head;
 use record::put_record;
 use tally::NO_LINE;
+use tally::check_line;
+use tally::check_lines;
 use tally::line_at;
-use tally::line_holds;
-use tally::lines_hold;
 ghost use mathlib.Core.Path.{_≡_};
 ghost use Prim.Native.Nat.{_+_, _≤_};
 ghost use lib.ListN.{drop};
@@ -34,13 +35,33 @@ pub struct Line {
     pub count: u8,
 }
 
+/// What the check of one line finds first: nothing, or the value that fails, or the rise above the line before.
+pub enum LineCheck {
+    Holds,
+    Species,
+    Class,
+    Count,
+    Order,
+}
+
+/// What the check of lines in turn finds: the check of the first line that fails and its index from 0, or `Holds` and 0.
+pub struct LinesCheck {
+    pub check: LineCheck,
+    pub index: usize,
+}
+
 /// A refusal. Document 01 calls them wrong frame, bad mark, cut short, bad tally, plot order, no such plot and full; each has its place, but for
-/// wrong frame and no such plot, whose place is 0.
+/// wrong frame and no such plot, whose place is 0. A bad tally has what failed in the line at fault and that line's index in its record; `Holds`
+/// and 0 where the fault is outside a line.
 pub enum Refusal {
     WrongLength,
     BadMark(usize),
     CutShort(usize),
-    BadTally(usize),
+    BadTally {
+        place: usize,
+        check: LineCheck,
+        index: usize,
+    },
     PlotOrder(usize),
     NoSuchPlot,
     Full(usize),
@@ -111,8 +132,13 @@ pub fn check(payload: &[u8]) -> Checked
                 let mut i = 0;
                 while i < count {
                     let line = line_at(payload, lines + i * 3);
-                    if !line_holds(before, line) {
-                        answer = Checked::Refused(Refusal::BadTally(c.at));
+                    let check = check_line(before, line);
+                    if check.number() != 0 {
+                        answer = Checked::Refused(Refusal::BadTally {
+                            place: c.at,
+                            check,
+                            index: i,
+                        });
                         break 'records;
                     }
                     before = line;
@@ -198,16 +224,22 @@ fn room(size: usize, c: Cursor, plot: u16, lines: &[u8]) -> Added
 {
     let at = c.at;
     if 120 < lines.len() {
-        return Added::Refused(Refusal::BadTally(at));
+        return Added::Refused(bad_record(at));
     }
     if lines.len() % 3 != 0 {
-        return Added::Refused(Refusal::BadTally(at));
+        return Added::Refused(bad_record(at));
     }
     if plot == 0 {
-        return Added::Refused(Refusal::BadTally(at));
+        return Added::Refused(bad_record(at));
     }
-    if !lines_hold(lines) {
-        return Added::Refused(Refusal::BadTally(at));
+    let found = check_lines(lines);
+    let check = found.check;
+    if check.number() != 0 {
+        return Added::Refused(Refusal::BadTally {
+            place: at,
+            check,
+            index: found.index,
+        });
     }
     if plot <= c.last {
         return Added::Refused(Refusal::PlotOrder(at));

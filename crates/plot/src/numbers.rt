@@ -1,11 +1,28 @@
-// Each answer as the number, the place and the values of document 01 (specs/Numbers.antt). An accepted answer has the number 0, and a value that
-// an answer does not have is 0.
+// Each answer as the number, the place and the values of document 01, and the figure and the line's index of document 02 (specs/Numbers.antt). An
+// accepted answer has the number 0, and a value that an answer does not have is 0.
 use crate::Added;
 use crate::Checked;
+use crate::LineCheck;
 use crate::Located;
 use crate::Refusal;
 ghost use mathlib.Core.Path.{_≡_};
-ghost use Rattle.plot.specs.Numbers.{numberOf, placeOf, payloadNumber, payloadPlace, payloadEnd, locatedNumber, locatedPlace, locatedStart, locatedLength, addedNumber, addedPlace, addedStart};
+ghost use Rattle.plot.specs.Layout.{figureNumber};
+ghost use Rattle.plot.specs.Numbers.{numberOf, placeOf, figureOf, indexOf, payloadNumber, payloadPlace, payloadFigure, payloadIndex, payloadEnd, locatedNumber, locatedPlace, locatedFigure, locatedIndex, locatedStart, locatedLength, addedNumber, addedPlace, addedFigure, addedIndex, addedStart};
+
+impl LineCheck {
+    /// The figure: 1 species, 2 class, 3 count, 4 the rise above the line before; 0 where the line holds.
+    pub fn number(self) -> u8
+        ensures { λ n. ⌜ n ≡ figureNumber self ⌝ }
+    {
+        match self {
+            LineCheck::Holds => 0,
+            LineCheck::Species => 1,
+            LineCheck::Class => 2,
+            LineCheck::Count => 3,
+            LineCheck::Order => 4,
+        }
+    }
+}
 
 impl Refusal {
     /// The number of the refusal, 2 or 5 to 10.
@@ -16,7 +33,11 @@ impl Refusal {
             Refusal::WrongLength => 2,
             Refusal::BadMark(_) => 5,
             Refusal::CutShort(_) => 6,
-            Refusal::BadTally(_) => 7,
+            Refusal::BadTally {
+                place: _,
+                check: _,
+                index: _,
+            } => 7,
             Refusal::PlotOrder(_) => 8,
             Refusal::NoSuchPlot => 9,
             Refusal::Full(_) => 10,
@@ -31,10 +52,52 @@ impl Refusal {
             Refusal::WrongLength => 0,
             Refusal::BadMark(p) => p,
             Refusal::CutShort(p) => p,
-            Refusal::BadTally(p) => p,
+            Refusal::BadTally {
+                place,
+                check: _,
+                index: _,
+            } => place,
             Refusal::PlotOrder(p) => p,
             Refusal::NoSuchPlot => 0,
             Refusal::Full(p) => p,
+        }
+    }
+
+    /// The figure of the first bad value in the first bad line, 1 to 4; 0 for a fault outside a line.
+    pub fn figure(self) -> u8
+        ensures { λ n. ⌜ n ≡ figureOf self ⌝ }
+    {
+        match self {
+            Refusal::WrongLength => 0,
+            Refusal::BadMark(_) => 0,
+            Refusal::CutShort(_) => 0,
+            Refusal::BadTally {
+                place: _,
+                check,
+                index: _,
+            } => check.number(),
+            Refusal::PlotOrder(_) => 0,
+            Refusal::NoSuchPlot => 0,
+            Refusal::Full(_) => 0,
+        }
+    }
+
+    /// The index of that line in its record, from 0; 0 for a fault outside a line.
+    pub fn index(self) -> usize
+        ensures { λ n. ⌜ n ≡ indexOf self ⌝ }
+    {
+        match self {
+            Refusal::WrongLength => 0,
+            Refusal::BadMark(_) => 0,
+            Refusal::CutShort(_) => 0,
+            Refusal::BadTally {
+                place: _,
+                check: _,
+                index,
+            } => index,
+            Refusal::PlotOrder(_) => 0,
+            Refusal::NoSuchPlot => 0,
+            Refusal::Full(_) => 0,
         }
     }
 }
@@ -57,6 +120,26 @@ impl Checked {
         match self {
             Checked::Accepted(_) => 0,
             Checked::Refused(r) => r.place(),
+        }
+    }
+
+    /// The figure of the line at fault.
+    pub fn figure(self) -> u8
+        ensures { λ n. ⌜ n ≡ payloadFigure self ⌝ }
+    {
+        match self {
+            Checked::Accepted(_) => 0,
+            Checked::Refused(r) => r.figure(),
+        }
+    }
+
+    /// The index of the line at fault.
+    pub fn index(self) -> usize
+        ensures { λ n. ⌜ n ≡ payloadIndex self ⌝ }
+    {
+        match self {
+            Checked::Accepted(_) => 0,
+            Checked::Refused(r) => r.index(),
         }
     }
 
@@ -89,6 +172,26 @@ impl Located {
         match self {
             Located::At { start: _, len: _ } => 0,
             Located::Refused(r) => r.place(),
+        }
+    }
+
+    /// The figure of the line at fault.
+    pub fn figure(self) -> u8
+        ensures { λ n. ⌜ n ≡ locatedFigure self ⌝ }
+    {
+        match self {
+            Located::At { start: _, len: _ } => 0,
+            Located::Refused(r) => r.figure(),
+        }
+    }
+
+    /// The index of the line at fault.
+    pub fn index(self) -> usize
+        ensures { λ n. ⌜ n ≡ locatedIndex self ⌝ }
+    {
+        match self {
+            Located::At { start: _, len: _ } => 0,
+            Located::Refused(r) => r.index(),
         }
     }
 
@@ -131,6 +234,26 @@ impl Added {
         match self {
             Added::At(_) => 0,
             Added::Refused(r) => r.place(),
+        }
+    }
+
+    /// The figure of the line at fault.
+    pub fn figure(self) -> u8
+        ensures { λ n. ⌜ n ≡ addedFigure self ⌝ }
+    {
+        match self {
+            Added::At(_) => 0,
+            Added::Refused(r) => r.figure(),
+        }
+    }
+
+    /// The index of the line at fault.
+    pub fn index(self) -> usize
+        ensures { λ n. ⌜ n ≡ addedIndex self ⌝ }
+    {
+        match self {
+            Added::At(_) => 0,
+            Added::Refused(r) => r.index(),
         }
     }
 

@@ -1,13 +1,14 @@
 // The bytes of one record, read and written: mark, plot number, number of lines, then the lines. A later edition of the record changes this file.
 // Each function meets its part of specs/Layout.antt and specs/Grammar.antt.
 use crate::Cursor;
+use crate::LineCheck;
 use crate::Refusal;
 use crate::Step;
 ghost use mathlib.Core.Path.{_≡_};
 ghost use Prim.Native.Nat.{_+_, _≤_, _<_, _^_};
 ghost use lib.ListN.{length};
 ghost use Rattle.plot.specs.Layout.{mark, headerLength, headerOf, recordOf};
-ghost use Rattle.plot.specs.Grammar.{allZero, agree, headAt};
+ghost use Rattle.plot.specs.Grammar.{allZero, agree, badRecord, headAt};
 
 // The mark before each record: compared by the reader, written by `add`.
 const MARK: [u8; 2] = [0x50, 0x4C];
@@ -45,6 +46,17 @@ fn has_mark(s: &[u8]) -> bool
     s[1] == MARK[1]
 }
 
+// A bad tally outside a line: more than 40 lines, a plot number 0, or lent lines of a bad length.
+pub(crate) fn bad_record(place: usize) -> Refusal
+    ensures { λ r. ⌜ r ≡ badRecord place ⌝ }
+{
+    Refusal::BadTally {
+        place,
+        check: LineCheck::Holds,
+        index: 0,
+    }
+}
+
 // The record at the front of s, which stands at `at` in the payload: its checks before the lines.
 pub(crate) fn head(s: &[u8], at: usize) -> Step
     requires { ⌜ at + length (now s) < 2 ^ 64 ⌝ }
@@ -58,14 +70,14 @@ pub(crate) fn head(s: &[u8], at: usize) -> Step
     }
     let count = s[4] as usize;
     if MOST_LINES < count {
-        return Step::Refused(Refusal::BadTally(at));
+        return Step::Refused(bad_record(at));
     }
     if s.len() < HEADER + count * 3 {
         return Step::Refused(Refusal::CutShort(at));
     }
     let plot = s[2] as u16 + (s[3] as u16) * 256;
     if plot == 0 {
-        return Step::Refused(Refusal::BadTally(at));
+        return Step::Refused(bad_record(at));
     }
     Step::Record {
         lines: at + HEADER,

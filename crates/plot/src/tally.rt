@@ -1,10 +1,12 @@
-// Tally lines: the check of one line after the line before it, and of lines in turn.
+// Tally lines: the check of one line after the line before it, which says what fails first, and the check of lines in turn.
 // Each meets its definition of specs/Layout.antt.
 use crate::Line;
+use crate::LineCheck;
+use crate::LinesCheck;
 ghost use mathlib.Core.Path.{_≡_};
 ghost use Prim.Native.Nat.{_+_, _≤_, _/_};
 ghost use lib.ListN.{length, drop};
-ghost use Rattle.plot.specs.Layout.{within, rises, lineOf, lineHolds, linesHold, noLine};
+ghost use Rattle.plot.specs.Layout.{within, rises, lineOf, lineCheck, linesCheck, noLine};
 
 // Before the first line stands this one, above which every line rises.
 pub(crate) const NO_LINE: Line = Line {
@@ -36,19 +38,22 @@ fn is_above(before: Line, line: Line) -> bool
 }
 
 // The check of one line after the line before it.
-pub(crate) fn line_holds(before: Line, line: Line) -> bool
-    ensures { λ r. ⌜ r ≡ lineHolds before line ⌝ }
+pub(crate) fn check_line(before: Line, line: Line) -> LineCheck
+    ensures { λ r. ⌜ r ≡ lineCheck before line ⌝ }
 {
     if !in_range(line.species, 1, 99) {
-        return false;
+        return LineCheck::Species;
     }
     if !in_range(line.class, 1, 200) {
-        return false;
+        return LineCheck::Class;
     }
     if !in_range(line.count, 1, 255) {
-        return false;
+        return LineCheck::Count;
     }
-    is_above(before, line)
+    if !is_above(before, line) {
+        return LineCheck::Order;
+    }
+    LineCheck::Holds
 }
 
 // The line whose first byte is at `at`.
@@ -64,19 +69,23 @@ pub(crate) fn line_at(s: &[u8], at: usize) -> Line
 }
 
 // Lines on their own, in turn.
-pub(crate) fn lines_hold(lines: &[u8]) -> bool
-    ensures { λ r. ⌜ r ≡ linesHold noLine (length (now (lines .entry)) / 3) (now (lines .entry)) ⌝ }
+pub(crate) fn check_lines(lines: &[u8]) -> LinesCheck
+    ensures { λ r. ⌜ r ≡ linesCheck noLine 0 (length (now (lines .entry)) / 3) (now (lines .entry)) ⌝ }
 {
     let count = lines.len() / 3;
     let mut before = NO_LINE;
     let mut i = 0;
     while i < count {
         let line = line_at(lines, i * 3);
-        if !line_holds(before, line) {
-            return false;
+        let check = check_line(before, line);
+        if check.number() != 0 {
+            return LinesCheck { check, index: i };
         }
         before = line;
         i += 1;
     }
-    true
+    LinesCheck {
+        check: LineCheck::Holds,
+        index: 0,
+    }
 }

@@ -1,22 +1,22 @@
--- The payload check. Outer invariant: the whole reading is the reading from the cursor on. Inner invariant: the lines of the record hold where
--- those from line `i` on do. Measures: the bytes and the lines left.
+-- The payload check. Outer invariant: the whole reading is the reading from the cursor on. Inner invariant: what is found in the lines of the record
+-- is what is found from line `i` on. Measures: the bytes and the lines left.
 use Prim.Native.Nat.{ℕ, _+_, _*_, _-_, _≤_}
 use native.Mathlib.Omega.{arith}
-use mathlib.Core.Path.{_≡_, sym, ap, _∙_}
+use mathlib.Core.Path.{_≡_, refl, sym, ap, _∙_}
 use lib.ListN.{length, drop, length-drop}
 use borrow.Author.Needs.{needs}
-use borrow.Author.Tests.{not-true, not-false}
 use Rattle.plot.specs.declared.Step.the-variants.{Record}
-use Rattle.plot.specs.Layout.{noLine, linesHold}
+use Rattle.plot.specs.Layout.{noLine, figureNumber, linesCheck}
 use Rattle.plot.specs.Grammar.{stepAt, readFrom, reading}
 use Rattle.plot.specs.Answers.{checkedOf}
-use Rattle.plot.proofs.Cases.{read-end, read-refused, lines-end, lines-not, lines-on, Bounds, bounds, turn-lines, turn-order, turn-on, checked-onto, checked-stopped, checked-plots, reading-long, reading-short, first-lines}
+use Rattle.plot.proofs.Cases.{read-end, read-refused, Bounds, bounds, turn-lines, turn-order, turn-on, checked-onto, checked-stopped, checked-plots, reading-long, reading-short}
+use Rattle.plot.proofs.Lines.{lines-end, lines-not, lines-on, first-lines}
 use Rattle.plot.proofs.check.Statement.{statement}
 use Rattle.plot.proofs.check.Tie as tie
 
 abbrev Inv-loop : tie.InvT-loop
 Inv-loop payload c lines count next before₀ i₀ before i =
-    (i ≤ count) × (linesHold noLine count (drop lines payload) ≡ linesHold before (count - i) (drop (lines + i * 3) payload))
+    (i ≤ count) × (linesCheck noLine 0 count (drop lines payload) ≡ linesCheck before i (count - i) (drop (lines + i * 3) payload))
 
 abbrev μ-loop : tie.MeasureT-loop
 μ-loop payload c lines count next before₀ i₀ before i = count - i
@@ -65,8 +65,11 @@ add-line-at c = omega (arith, bounds-here (c .before .before))
 line-at-requires : tie.Need-line-at-requires Inv-loop μ-loop Inv-records μ-records
 line-at-requires c κs = omega (arith, bounds-here (c .before .before))
 
-line-holds-requires : tie.Need-line-holds-requires Inv-loop μ-loop Inv-records μ-records
-line-holds-requires c κs = search needs
+check-line-requires : tie.Need-check-line-requires Inv-loop μ-loop Inv-records μ-records
+check-line-requires c κs = search needs
+
+number-requires : tie.Need-number-requires Inv-loop μ-loop Inv-records μ-records
+number-requires c κs = search needs
 
 add-i : tie.Need-add-i Inv-loop μ-loop Inv-records μ-records
 add-i c = omega arith
@@ -76,8 +79,11 @@ loop-less c = omega arith
 
 loop-again : tie.Need-loop-again Inv-loop μ-loop Inv-records μ-records
 loop-again c =
-    let l = c .before .before .before .before .loop in
-    (omega arith, l .inv .1 ∙ lines-on _ _ _ _ _ (c .before .before .before .loop-test .taken) _ (c .before .before .line-at .ensures) (sym (c .before .line-holds .ensures) ∙ not-false _ (c .if2 .left)))
+    let d = c .before .before in (
+      omega arith,
+      d .before .before .before .loop .inv .1
+          ∙ lines-on _ _ _ _ _ (d .before .before .loop-test .taken) _ (d .before .line-at .ensures) _ (d .check-line .ensures) (sym (c .before .number .ensures) ∙ c .if2 .left),
+    )
 
 records-less : tie.Need-records-less Inv-loop μ-loop Inv-records μ-records
 records-less c = omega (arith, bounds-here (c .before .before .before .before .before))
@@ -90,7 +96,7 @@ records-again c =
       o .inv .0 - 1,
       omega (arith, bounds-here d),
       omega (arith, bounds-here d),
-      o .inv .3 ∙ ap (checkedOf (o .c .last)) (turn-on _ _ _ _ _ _ _ (step-is d) (o .inv .1) g (c .if3 .left)) ∙ checked-onto _ _ _,
+      o .inv .3 ∙ ap (checkedOf (o .c .last)) (turn-on _ _ _ _ _ _ _ (step-is d) (o .inv .1) _ g refl (c .if3 .left)) ∙ checked-onto _ _ _,
     )
 
 enum-told : tie.Need-enum-told Inv-loop μ-loop Inv-records μ-records
@@ -101,18 +107,19 @@ enum-known-r c = search needs
 
 returns-2 : tie.Need-returns-2 Inv-loop μ-loop Inv-records μ-records
 returns-2 c =
-    let d = c .before .before .before .before .before in
+    let e = c .before .before in
+    let d = e .before .before .before .before in
     let o = d .before .before .before .before .records in
-    let l = c .before .before .before .before .loop in
-    let g = l .inv .1 ∙ lines-not _ _ _ _ _ (c .before .before .before .loop-test .taken) _ (c .before .before .line-at .ensures) (sym (c .before .line-holds .ensures) ∙ not-true _ (c .if2 .taken)) in
-    checked-stopped _ _ _ (turn-lines _ _ _ _ _ _ _ (step-is d) (o .inv .1) g) ∙ sym (o .inv .3)
+    let f : figureNumber (e .check-line .result) ≡ 0 → ⊥ = λ z. c .if2 .taken (c .before .number .ensures ∙ z) in
+    let g = e .before .before .before .loop .inv .1 ∙ lines-not _ _ _ _ _ (e .before .before .loop-test .taken) _ (e .before .line-at .ensures) _ (e .check-line .ensures) f in
+    checked-stopped _ _ _ (turn-lines _ _ _ _ _ _ _ (step-is d) (o .inv .1) _ g f) ∙ sym (o .inv .3)
 
 returns-3 : tie.Need-returns-3 Inv-loop μ-loop Inv-records μ-records
 returns-3 c =
     let d = c .before .before .before .before .before in
     let o = d .before .before .before .before .records in
     let g = c .before .before .before .before .loop .inv .1 ∙ lines-end _ _ _ _ _ (c .before .before .before .loop-test .left) in
-    checked-stopped _ _ _ (turn-order _ _ _ _ _ _ _ (step-is d) (o .inv .1) g (c .if3 .taken)) ∙ sym (o .inv .3)
+    checked-stopped _ _ _ (turn-order _ _ _ _ _ _ _ (step-is d) (o .inv .1) _ g refl (c .if3 .taken)) ∙ sym (o .inv .3)
 
 returns-4 : tie.Need-returns-4 Inv-loop μ-loop Inv-records μ-records
 returns-4 c =
@@ -142,7 +149,8 @@ check-spec =
     mul-line-at
     add-line-at
     line-at-requires
-    line-holds-requires
+    check-line-requires
+    number-requires
     add-i
     loop-less
     loop-again

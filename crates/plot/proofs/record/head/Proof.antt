@@ -1,11 +1,12 @@
 -- Each check of a record before its lines is a case of `headAt`, from the tests passed so far.
 use native.Mathlib.Omega.{arith}
-use mathlib.Core.Path.{_≡_, sym, _∙_}
+use mathlib.Core.Path.{_≡_, sym, ap, _∙_}
 use borrow.Author.Tests.{not-true, not-false}
 use Rattle.plot.proofs.Cases.{head-mark, head-short, head-lines, head-cut, head-plot, head-record}
 use mathlib.Core.Bool.{true}
 use Rattle.plot.specs.Layout.{mark}
 use Rattle.plot.specs.Grammar.{agree}
+use Rattle.plot.specs.declared.Step.the-variants.{Refused}
 use borrow.Author.Needs.{needs}
 use Rattle.plot.proofs.record.head.Statement.{statement}
 use Rattle.plot.proofs.record.head.Tie as tie
@@ -29,8 +30,11 @@ shared-slice-read-count c = search needs
 cast-count : tie.Need-cast-count
 cast-count c = omega (arith, c .shared-slice-known2 .given 4)
 
+bad-record-requires : tie.Need-bad-record-requires
+bad-record-requires c κs = search needs
+
 returns-3 : tie.Need-returns-3
-returns-3 c = head-lines _ _ (marked (c .before .before .before)) (c .before .before .if2 .left) (c .if3 .taken)
+returns-3 c = ap Refused (c .bad-record .ensures) ∙ head-lines _ _ (marked (c .before .before .before .before)) (c .before .before .before .if2 .left) (c .before .if3 .taken)
 
 mul-if4 : tie.Need-mul-if4
 mul-if4 c = search needs
@@ -59,10 +63,14 @@ mul-plot c = omega (arith, c .shared-slice-known4 .given 3)
 add-plot : tie.Need-add-plot
 add-plot c = omega (arith, c .shared-slice-known4 .given 2, c .shared-slice-known4 .given 3)
 
+bad-record-requires-2 : tie.Need-bad-record-requires-2
+bad-record-requires-2 c κs = search needs
+
 returns-5 : tie.Need-returns-5
 returns-5 c =
-    head-plot _ _ (marked (c .before .before .before .before .before .before .before)) (c .before .before .before .before .before .before .if2 .left)
-    (c .before .before .before .before .if3 .left) (c .before .before .before .if4 .left) (c .if5 .taken)
+    ap Refused (c .bad-record2 .ensures)
+    ∙ head-plot _ _ (marked (c .before .before .before .before .before .before .before .before)) (c .before .before .before .before .before .before .before .if2 .left)
+    (c .before .before .before .before .before .if3 .left) (c .before .before .before .before .if4 .left) (c .before .if5 .taken)
 
 add-t8 : tie.Need-add-t8
 add-t8 c = search needs
@@ -90,6 +98,7 @@ head-spec =
     returns-2
     shared-slice-read-count
     cast-count
+    bad-record-requires
     returns-3
     mul-if4
     add-if4
@@ -100,6 +109,7 @@ head-spec =
     cast-plot-2
     mul-plot
     add-plot
+    bad-record-requires-2
     returns-5
     add-t8
     mul-t13

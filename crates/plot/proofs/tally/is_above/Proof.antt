@@ -1,5 +1,5 @@
 -- Each return is a case of `rises`.
-use Rattle.plot.proofs.Cases.{rises-species, rises-not, rises-class}
+use Rattle.plot.proofs.Lines.{rises-species, rises-not, rises-class}
 use Rattle.plot.proofs.tally.is_above.Statement.{statement}
 use Rattle.plot.proofs.tally.is_above.Tie as tie
 
