@@ -24,7 +24,7 @@ use Rattle.plot.specs.Layout.{Plot, recordLength, noLine, figureNumber, 
 use Rattle.plot.specs.Grammar.{badLine, badRecord, stepAt, Parsed, Plots, Stopped, readFrom, longest, reading}
 use Rattle.plot.specs.Answers.{lastNumber, checkedOf, checked, seek, locatedOf, located, partOf, linesFit, roomFor, addedOf, added, payloadAfter, payloadWith}
 use Rattle.plot.specs.Numbers.{locatedStart}
-use Rattle.plot.proofs.Lines.{not-held, all-held}
+use Rattle.plot.proofs.Lines.{not-held}
 use Rattle.plot.proofs.Cases.{pick-out, bounds}
 use Rattle.plot.proofs.Accepts.{not-stopped, here, Accepts, accepts, length-here, Lies, lies}
 
@@ -170,31 +170,28 @@ module _ (size end last : ℕ) (p : Plot) where
       add-zero-plot h = rw (le-ltb _ _ h1, eq-eqb (length (p .lines) % 3) 0 h2, eq-eqb (p .number) 0 h)
 
       module _ (h3 : p .number ≡ 0 → ⊥) where
-        module _ (found : LinesCheck) (e : found ≡ linesCheck noLine 0 (linesOf p) (p .lines)) where
-          pub add-lines : (figureNumber (found .check) ≡ 0 → ⊥) → added-as.Refused (badLine end found) ≡ roomFor size end last p
+        pub add-lines : (found : LinesCheck) → found ≡ linesCheck noLine 0 (linesOf p) (p .lines) → (figureNumber (found .check) ≡ 0 → ⊥)
+            → added-as.Refused (badLine end found) ≡ roomFor size end last p
+        unfolding roomFor
+        add-lines found e h = rw (le-ltb _ _ h1, eq-eqb (length (p .lines) % 3) 0 h2, ne-eqb (p .number) 0 h3, not-held noLine (linesOf p) (p .lines) found (sym e) h, e)
+
+        module _ (h4 : linesHold noLine (linesOf p) (p .lines) ≡ true) where
+          pub add-order : p .number ≤ last → added-as.Refused (PlotOrder end) ≡ roomFor size end last p
           unfolding roomFor
-          add-lines h = rw (le-ltb _ _ h1, eq-eqb (length (p .lines) % 3) 0 h2, ne-eqb (p .number) 0 h3, not-held noLine (linesOf p) (p .lines) found (sym e) h, e)
+          add-order h = rw (le-ltb _ _ h1, eq-eqb (length (p .lines) % 3) 0 h2, ne-eqb (p .number) 0 h3, h4, le-leb _ _ h)
 
-          module _ (h4 : figureNumber (found .check) ≡ 0) where
-            hold : linesHold noLine (linesOf p) (p .lines) ≡ true
-            hold = all-held noLine (linesOf p) (p .lines) found (sym e) h4
-
-            pub add-order : p .number ≤ last → added-as.Refused (PlotOrder end) ≡ roomFor size end last p
+          module _ (h5 : last < p .number) where
+            pub add-full : size - end < 5 + length (p .lines) → added-as.Refused (Full end) ≡ roomFor size end last p
             unfolding roomFor
-            add-order h = rw (le-ltb _ _ h1, eq-eqb (length (p .lines) % 3) 0 h2, ne-eqb (p .number) 0 h3, hold, le-leb _ _ h)
+            add-full h =
+                let k : size - end < length (recordOf p) = omega arith in
+                rw (le-ltb _ _ h1, eq-eqb (length (p .lines) % 3) 0 h2, ne-eqb (p .number) 0 h3, h4, lt-leb _ _ h5, lt-ltb (size - end) (length (recordOf p)) k)
 
-            module _ (h5 : last < p .number) where
-              pub add-full : size - end < 5 + length (p .lines) → added-as.Refused (Full end) ≡ roomFor size end last p
-              unfolding roomFor
-              add-full h =
-                  let k : size - end < length (recordOf p) = omega arith in
-                  rw (le-ltb _ _ h1, eq-eqb (length (p .lines) % 3) 0 h2, ne-eqb (p .number) 0 h3, hold, lt-leb _ _ h5, lt-ltb (size - end) (length (recordOf p)) k)
-
-              pub add-here : 5 + length (p .lines) ≤ size - end → added-as.At end ≡ roomFor size end last p
-              unfolding roomFor
-              add-here h =
-                  let k : length (recordOf p) ≤ size - end = omega arith in
-                  rw (le-ltb _ _ h1, eq-eqb (length (p .lines) % 3) 0 h2, ne-eqb (p .number) 0 h3, hold, lt-leb _ _ h5, le-ltb (size - end) (length (recordOf p)) k)
+            pub add-here : 5 + length (p .lines) ≤ size - end → added-as.At end ≡ roomFor size end last p
+            unfolding roomFor
+            add-here h =
+                let k : length (recordOf p) ≤ size - end = omega arith in
+                rw (le-ltb _ _ h1, eq-eqb (length (p .lines) % 3) 0 h2, ne-eqb (p .number) 0 h3, h4, lt-leb _ _ h5, le-ltb (size - end) (length (recordOf p)) k)
 
 pub no-plots : (ps : List Plot) (end at : ℕ) → Plots ps end ≡ Plots [] at → ps ≡ []
 no-plots ps end at e = cc

@@ -1,5 +1,5 @@
 -- Records as written are read back: from plots that hold and rise the reading goes on to what stands after them, and gives those plots if that is zeros, or
--- stops by its fault. By induction on the plots: each record passes every check of its step.
+-- stops there. By induction on the plots: each record passes every check of its step.
 use Prim.Native.Nat.{ℕ, zero, suc, _+_, _*_, _-_, _<_, _≤_}
 use native.Mathlib.Omega.{arith}
 use native.Mathlib.Nat.{mod-add-div', add-zero, zero-add}
@@ -12,14 +12,11 @@ use Rattle.plot.specs.declared.Cursor.{Cursor}
 use Rattle.plot.specs.declared.Refusal.{Refusal}
 use Rattle.plot.specs.declared.Step.the-variants.{Record, End}
 use Rattle.plot.specs.Layout.{Plot, mark, headerLength, plotOf, recordLength, noLine, linesHold, linesOf, recordOf, bytesOf}
-use Rattle.plot_promises.specs.Checks.{RecordFault}
 use Rattle.plot.specs.Grammar.{allZero, agree, headAt, stepAt, Parsed, Plots, Stopped, onto, readFrom, longest, reading}
 use Rattle.plot.specs.Answers.{lastNumber}
 use Rattle.plot_promises.specs.Canonical.{Holds, Rising}
 use Rattle.plot.proofs.Cases.{head-record, read-end, read-on, reading-short}
 use Rattle.plot_promises.proofs.Lines.{lines-hold-iff}
-use Rattle.plot_promises.proofs.Refusals.{Refuses}
-use Rattle.plot_promises.proofs.Turn.{fault-reads}
 use Rattle.plot_promises.proofs.Sound.{lines-prefix, payloadOf}
 
 all-zeros : (n : ℕ) → allZero (replicate n 0) ≡ true
@@ -135,14 +132,14 @@ module _ (size : ℕ) (ps : List Plot) (fits : length (bytesOf ps) ≤ size) whe
       ∙ all-plots ps (0 + length (bytesOf ps))
       ∙ ap (Plots ps) (zero-add (length (bytesOf ps)))
 
--- plots, then a fault
-pub reading-stops : (ps : List Plot) (rest : List ℕ) (k : ℕ) → length (bytesOf ps ++ rest) ≤ longest → Rising 0 ps → RecordFault (lastNumber 0 ps) rest k
-    → (r : Refusal) × (reading (bytesOf ps ++ rest) ≡ Stopped r) × Refuses (length (bytesOf ps)) r k
-reading-stops ps rest k l r x =
+-- plots, then bytes at which the reading stops
+pub stops-past : (P : Refusal → Type 0) (ps : List Plot) (rest : List ℕ) → length (bytesOf ps ++ rest) ≤ longest → Rising 0 ps
+    → ((f : ℕ) → length rest ≤ f → (r : Refusal) × (readFrom f (length (bytesOf ps)) (lastNumber 0 ps) rest ≡ Stopped r) × P r)
+    → (r : Refusal) × (reading (bytesOf ps ++ rest) ≡ Stopped r) × P r
+stops-past P ps rest l r x =
     let s = bytesOf ps ++ rest in
     let g = past-plots rest ps (length s) 0 0 r (omega (arith, length-append (bytesOf ps) rest)) in
-    let y = fault-reads (g .steps) (0 + length (bytesOf ps)) (lastNumber 0 ps) rest k (g .enough) x in (
-      y .0,
-      reading-short s l ∙ g .reads ∙ ap (ontoAll ps) (y .1) ∙ all-stopped ps (y .0),
-      record { number-is = y .2 .number-is; place-is = y .2 .place-is ∙ zero-add (length (bytesOf ps)) },
-    )
+    let y = x (g .steps) (g .enough) in
+    let z : readFrom (g .steps) (0 + length (bytesOf ps)) (lastNumber 0 ps) rest ≡ Stopped (y .0) =
+    ap (λ (n : ℕ). readFrom (g .steps) n (lastNumber 0 ps) rest) (zero-add (length (bytesOf ps))) ∙ y .1 in
+    (y .0, reading-short s l ∙ g .reads ∙ ap (ontoAll ps) z ∙ all-stopped ps (y .0), y .2)

@@ -1,6 +1,7 @@
-pub mod Lines
-pub mod Refusals
 pub mod Checks
+pub mod Lines
+pub mod FirstBad
+pub mod Refusals
 pub mod Place
 pub mod Turn
 pub mod Stepping
@@ -11,3 +12,4 @@ pub mod Checking
 pub mod Asking
 pub mod Adding
 pub mod Ranges
+pub mod Figures

@@ -1,9 +1,9 @@
--- The test of the lines in turn is what specs/Lines.antt says of every line and of every two neighbours. By induction on the number of lines: the
--- lines after the first are the lines of the bytes after the first three.
+-- The check of one line tells the first of its checks that fails, and the test of the lines in turn is what specs/Lines.antt says of every line and of every two
+-- neighbours. By induction on the number of lines: the lines after the first are the lines of the bytes after the first three.
 use mathlib.Core.Path.{_≡_, refl, sym, ap, subst, _∙_}
-use mathlib.Core.Logic.{_↔_, inl, inr, ⊎-elim}
-use mathlib.Core.Bool.{Bool, true, false, not}
-use mathlib.Core.List.{List}
+use mathlib.Core.Logic.{_⊎_, _↔_, _≢_, inl, inr, ⊎-elim}
+use mathlib.Core.Bool.{Bool, true, false}
+use mathlib.Core.List.{List, [], _∷_}
 use Prim.Native.Nat.{ℕ, zero, suc, zero-le, suc-le-suc, _+_, _*_, _<_, _≤_}
 use native.Mathlib.Omega.{arith}
 use native.Mathlib.Nat.{not-suc-le-zero, le-of-suc-le-suc}
@@ -14,17 +14,19 @@ use borrow.Author.Tests.{le-ltb, lt-ltb, le-leb, eq-eqb, ltb-true, ltb-false, le
 use Rattle.lists.specs.Choice.{pick}
 use Rattle.lists.proofs.Test.{true-false}
 use Rattle.plot.specs.declared.Line.{Line}
-use Rattle.plot.specs.Layout.{lineOf, noLine, within, rises, lineHolds, linesHold}
-use Rattle.plot_promises.specs.Lines.{lineAt, InRanges, Above, LinesHold, LinesHoldIff}
+use Rattle.plot.specs.declared.LineCheck.{LineCheck}
+use Rattle.plot.specs.declared.LineCheck.the-variants.{Holds, Species, Class, Count, Order}
+use Rattle.plot.specs.Layout.{lineOf, noLine, within, rises, lineCheck, figureNumber, lineHolds, linesHold}
+use Rattle.plot.proofs.Lines.{hold-none, hold-first}
+use Rattle.plot_promises.specs.Lines.{lineAt, SpeciesInRange, ClassInRange, CountInRange, InRanges, Above, LinesHold, LinesHoldIff}
+use Rattle.plot_promises.specs.Checks.{FirstFails, NoneFails}
+use Rattle.plot_promises.specs.Figures.{lineChecks, LineCheckExactly}
+use Rattle.plot_promises.proofs.Checks.{first-one, not-both, first-of, Tested, unless-true, chosen}
 
 -- two tests of which both have to be true
 pub pick-true : (t u : Bool) → pick t u false ≡ true → (t ≡ true) × (u ≡ true)
 pick-true true u h = (refl, h)
 pick-true false u h = absurd (true-false h refl)
-
-pick-not : (t u : Bool) → pick (not t) false u ≡ true → (t ≡ true) × (u ≡ true)
-pick-not true u h = (refl, h)
-pick-not false u h = absurd (true-false h refl)
 
 -- a number within its range
 within-iff : (least most x : ℕ) → (within least most x ≡ true) ↔ ((least ≤ x) × (x ≤ most))
@@ -52,17 +54,47 @@ rises-iff before line = (
         let a = pick-true _ _ h in
         inr (eqb-true _ _ (a .0), ltb-true _ _ (a .1))
 
--- one line
-pub line-iff : (before line : Line) → (lineHolds before line ≡ true) ↔ (InRanges line × Above before line)
-unfolding lineHolds
-line-iff before line = (
-  (λ h.
-      let a = pick-not _ _ h in
-      let b = pick-not _ _ (a .1) in
-      let c = pick-not _ _ (b .1) in
-      (record { species = within-iff 1 99 _ .0 (a .0); class = within-iff 1 200 _ .0 (b .0); count = within-iff 1 255 _ .0 (c .0) }, rises-iff before line .0 (c .1))),
-  (λ h. rw (within-iff 1 99 _ .1 (h .0 .species), within-iff 1 200 _ .1 (h .0 .class), within-iff 1 255 _ .1 (h .0 .count)) (rises-iff before line .1 (h .1))),
-)
+-- one line: the choice by tests is the first check that fails
+module _ (before line : Line) where
+  abbrev Figure : LineCheck → ℕ → Type 0
+  Figure check figure = figureNumber check ≡ figure
+
+  abbrev lineTests : List (Tested Figure)
+  lineTests =
+      unless-true Figure 1 Species refl (within 1 99 (line .species)) (SpeciesInRange line) (within-iff 1 99 (line .species))
+      ∷ unless-true Figure 2 Class refl (within 1 200 (line .class)) (ClassInRange line) (within-iff 1 200 (line .class))
+      ∷ unless-true Figure 3 Count refl (within 1 255 (line .count)) (CountInRange line) (within-iff 1 255 (line .count))
+      ∷ unless-true Figure 4 Order refl (rises before line) (Above before line) (rises-iff before line)
+      ∷ []
+
+  pub line-check-is : ((k : ℕ) × FirstFails (lineChecks before line) k × Figure (lineCheck before line) k) ⊎ (NoneFails (lineChecks before line) × (lineCheck before line ≡ Holds))
+  unfolding lineCheck
+  line-check-is = chosen Figure lineTests Holds
+
+  -- the number of a check that fails is not 0
+  pub figure-some : (k : ℕ) → FirstFails (lineChecks before line) k → k ≢ 0
+  figure-some k = first-of (λ (j : ℕ). j ≢ 0) (lineChecks before line) k ((λ e. omega arith), ((λ e. omega arith), ((λ e. omega arith), ((λ e. omega arith), tt))))
+
+  pub line-check-exactly : LineCheckExactly before line
+  line-check-exactly =
+      ⊎-elim
+      (λ h. record {
+        fails = λ figure z. ((λ e. subst (FirstFails (lineChecks before line)) (sym (h .2) ∙ e) (h .1)), λ f. h .2 ∙ first-one (lineChecks before line) (h .0) figure (h .1) f);
+        holds = ((λ e. absurd (figure-some (h .0) (h .1) (sym (h .2) ∙ e))), λ n. absurd (not-both (lineChecks before line) (h .0) (h .1) n));
+      })
+      (λ h. record {
+        fails = λ figure z. ((λ e. absurd (z (sym e ∙ ap figureNumber (h .1)))), λ f. absurd (not-both (lineChecks before line) figure f (h .0)));
+        holds = ((λ e. h .0), λ n. ap figureNumber (h .1));
+      })
+      line-check-is
+
+  pub line-iff : (lineHolds before line ≡ true) ↔ (InRanges line × Above before line)
+  line-iff = (
+    (λ e.
+        let n = line-check-exactly .holds .0 (eqb-true _ _ e) in
+        (record { species = n .0; class = n .1 .0; count = n .1 .1 .0 }, n .1 .1 .1 .0)),
+    (λ h. eq-eqb _ _ (line-check-exactly .holds .1 (h .0 .species, (h .0 .class, (h .0 .count, (h .1, tt)))))),
+  )
 
 -- the lines after the first
 pub line-after : (s : List ℕ) (i : ℕ) → lineAt (drop 3 s) i ≡ lineAt s (suc i)
@@ -103,19 +135,18 @@ module _ (before : Line) (count : ℕ) (s : List ℕ) where
           (subst (Above (lineAt s (suc i))) (before-after (suc i)) (h .rise (suc i) (suc-le-suc l)))
 
 hold-after : (count : ℕ) (before : Line) (s : List ℕ) → (linesHold before count s ≡ true) ↔ HoldAfter before count s
-unfolding linesHold
 hold-after zero before s = (
   (λ e. (record { ranges = λ i l. absurd (not-suc-le-zero l); rise = λ i l. absurd (not-suc-le-zero l) }, λ l. absurd (not-suc-le-zero l))),
-  λ h. refl,
+  λ h. hold-none before s,
 )
 hold-after (suc count) before s = (
   (λ e.
-      let a = pick-true (lineHolds before (lineOf s)) _ e in
+      let a = pick-true (lineHolds before (lineOf s)) _ (sym (hold-first before count s) ∙ e) in
       let b = line-iff before (lineOf s) .0 (a .0) in
       more before count s (b .0) (b .1) (hold-after count (lineOf s) (drop 3 s) .0 (a .1))),
   (λ h.
       let a : lineHolds before (lineOf s) ≡ true = line-iff before (lineOf s) .1 (h .0 .ranges 0 (suc-le-suc zero-le), h .1 (suc-le-suc zero-le)) in
-      rw a (hold-after count (lineOf s) (drop 3 s) .1 (less before count s (h .0)))),
+      hold-first before count s ∙ ap (λ (t : Bool). pick t (linesHold (lineOf s) count (drop 3 s)) false) a ∙ hold-after count (lineOf s) (drop 3 s) .1 (less before count s (h .0))),
 )
 
 -- every line in its ranges is above the one that stands before the first

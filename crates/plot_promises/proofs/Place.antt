@@ -11,15 +11,15 @@ use lib.Dec.{eqb}
 use borrow.Author.Tests.{eq-eqb, ne-eqb, eqb-true, eqb-false}
 use Rattle.lists.proofs.Test.{true-or-false, true-false}
 use Rattle.plot.specs.declared.Refusal.{Refusal}
-use Rattle.plot.specs.declared.Refusal.the-variants.{BadMark, CutShort, BadTally}
+use Rattle.plot.specs.declared.Refusal.the-variants.{BadMark, CutShort}
 use Rattle.plot.specs.declared.Step.{Step}
 use Rattle.plot.specs.declared.Step.the-variants.{Record, End, Refused}
 use Rattle.plot.specs.Layout.{mark, headerLength, plotOf, countOf, recordLength}
 use Rattle.plot_promises.specs.Checks.{NoneFails, Marked, headerChecks, Zeros, FaultAt, inZeros, inRecord}
-use Rattle.plot.specs.Grammar.{allZero, agree, headAt, stepAt}
+use Rattle.plot.specs.Grammar.{allZero, agree, badRecord, headAt, stepAt}
 use Rattle.plot.specs.Numbers.{numberOf, placeOf}
 use Rattle.plot_promises.proofs.Checks.{Tested, unless-true, unless-less, unless-zero, chosen}
-use Rattle.plot_promises.proofs.Refusals.{AnswerRefuses, refuse}
+use Rattle.plot_promises.proofs.Refusals.{NoLine, AnswerRefuses, refuse}
 use Rattle.plot_promises.proofs.Lines.{pick-true}
 
 -- the mark, as far as both go
@@ -56,11 +56,11 @@ module _ (at : ℕ) (s : List ℕ) where
 
   abbrev headTests : List (Tested StepRefuses)
   headTests =
-      unless-true StepRefuses 5 (Refused (BadMark at)) (refuse Refused at (BadMark at) refl) (agree mark s) (Marked s) (agree-iff mark s)
-      ∷ unless-less StepRefuses 6 (Refused (CutShort at)) (refuse Refused at (CutShort at) refl) (length s) headerLength
-      ∷ unless-less StepRefuses 7 (Refused (BadTally at)) (refuse Refused at (BadTally at) refl) 40 (countOf s)
-      ∷ unless-less StepRefuses 6 (Refused (CutShort at)) (refuse Refused at (CutShort at) refl) (length s) (recordLength (countOf s))
-      ∷ unless-zero StepRefuses 7 (Refused (BadTally at)) (refuse Refused at (BadTally at) refl) (plotOf s)
+      unless-true StepRefuses 5 (Refused (BadMark at)) (refuse Refused at (BadMark at) refl (refl, refl)) (agree mark s) (Marked s) (agree-iff mark s)
+      ∷ unless-less StepRefuses 6 (Refused (CutShort at)) (refuse Refused at (CutShort at) refl (refl, refl)) (length s) headerLength
+      ∷ unless-less StepRefuses 7 (Refused (badRecord at)) (refuse Refused at (badRecord at) refl (refl, refl)) 40 (countOf s)
+      ∷ unless-less StepRefuses 6 (Refused (CutShort at)) (refuse Refused at (CutShort at) refl (refl, refl)) (length s) (recordLength (countOf s))
+      ∷ unless-zero StepRefuses 7 (Refused (badRecord at)) (refuse Refused at (badRecord at) refl (refl, refl)) (plotOf s)
       ∷ []
 
   abbrev pub recordHere : Step
@@ -69,7 +69,7 @@ module _ (at : ℕ) (s : List ℕ) where
   -- what stands here
   pub data StepIs : Type 0 where
     ends : Zeros s → stepAt at s ≡ End → StepIs
-    stops : (r : Refusal) → stepAt at s ≡ Refused r → placeOf r ≡ at → FaultAt (headerChecks s) s (numberOf r) → StepIs
+    stops : (r : Refusal) → stepAt at s ≡ Refused r → placeOf r ≡ at → NoLine r → FaultAt (headerChecks s) s (numberOf r) → StepIs
     goes-on : getD s 0 0 ≢ 0 → NoneFails (headerChecks s) → stepAt at s ≡ recordHere → StepIs
 
   zero-tail : getD s 0 0 ≡ 0 → allZero s ≡ false → stepAt at s ≡ Refused (BadMark at)
@@ -84,7 +84,7 @@ module _ (at : ℕ) (s : List ℕ) where
   zero-first z =
       ⊎-elim
       (λ e. ends (zeros-iff s .0 e) (zero-end z e))
-      (λ e. stops (BadMark at) (zero-tail z e) refl (inZeros z (λ h. true-false (zeros-iff s .1 h) e) refl))
+      (λ e. stops (BadMark at) (zero-tail z e) refl (refl, refl) (inZeros z (λ h. true-false (zeros-iff s .1 h) e) refl))
       (true-or-false (allZero s))
 
   record-first : getD s 0 0 ≢ 0 → StepIs
@@ -93,7 +93,7 @@ module _ (at : ℕ) (s : List ℕ) where
       ⊎-elim
       (λ a.
       let r = a .2 .0 in
-      stops r (rw (ne-eqb _ _ z) (a .2 .1)) (a .2 .2 .place-is)
+      stops r (rw (ne-eqb _ _ z) (a .2 .1)) (a .2 .2 .place-is) (a .2 .3)
       (inRecord z (rw (a .2 .2 .number-is) (a .1))))
       (λ b. goes-on z (b .0) (rw (ne-eqb _ _ z) (b .1)))
       (chosen StepRefuses headTests recordHere)

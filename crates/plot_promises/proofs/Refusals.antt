@@ -1,4 +1,5 @@
--- Which answers are refusals, told by the number: no refusal has the number 0. And what it is for an answer to be the refusal of a number at a place.
+-- Which answers are refusals, told by the number: no refusal has the number 0. And what it is for an answer to be the refusal of a number at a place, and to name a
+-- line or none.
 use Prim.Native.Nat.{ℕ}
 use native.Mathlib.Omega.{arith}
 use mathlib.Core.Path.{_≡_, refl}
@@ -11,13 +12,13 @@ use Rattle.plot.specs.declared.Located.{Located}
 use Rattle.plot.specs.declared.Located.the-variants as located-as
 use Rattle.plot.specs.declared.Added.{Added}
 use Rattle.plot.specs.declared.Added.the-variants as added-as
-use Rattle.plot.specs.Numbers.{numberOf, placeOf, payloadNumber, payloadPlace, payloadEnd, locatedNumber, locatedPlace, addedNumber, addedPlace, addedStart}
+use Rattle.plot.specs.Numbers.{numberOf, placeOf, figureOf, indexOf, payloadNumber, payloadPlace, payloadEnd, locatedNumber, locatedPlace, addedNumber, addedPlace, addedStart}
 
 pub number-some : (r : Refusal) → numberOf r ≢ 0
 number-some WrongLength e = omega arith
 number-some (BadMark place) e = omega arith
 number-some (CutShort place) e = omega arith
-number-some (BadTally place) e = omega arith
+number-some (BadTally place check index) e = omega arith
 number-some (PlotOrder place) e = omega arith
 number-some NoSuchPlot e = omega arith
 number-some (Full place) e = omega arith
@@ -51,10 +52,23 @@ pub record Refuses (at : ℕ) (r : Refusal) (number : ℕ) : Type 0 where
   pub number-is : numberOf r ≡ number
   pub place-is : placeOf r ≡ at
 
+-- a refusal that names no line
+abbrev pub NoLine : Refusal → Type 0
+NoLine r = (figureOf r ≡ 0) × (indexOf r ≡ 0)
+
+-- a bad tally at a place, with its figure and its line
+abbrev pub Tells : Refusal → ℕ → ℕ → ℕ → Type 0
+Tells r place figure index = (numberOf r ≡ 7) × (placeOf r ≡ place) × (figureOf r ≡ figure) × (indexOf r ≡ index)
+
+-- where the fault of a refusal lies: in a line, which fails as `Bad` says, or in none
+pub data LineOf (Bad : ℕ → ℕ → Type 0) (r : Refusal) : Type 0 where
+  in-line : numberOf r ≡ 7 → figureOf r ≢ 0 → Bad (figureOf r) (indexOf r) → LineOf Bad r
+  in-none : NoLine r → ((f i : ℕ) → Bad f i → ⊥) → LineOf Bad r
+
 -- an answer of the type A, in which refusals stand by `answer`
 module _ {A : Type 0} (answer : Refusal → A) (at : ℕ) where
   abbrev pub AnswerRefuses : A → ℕ → Type 0
-  AnswerRefuses a number = (r : Refusal) × (a ≡ answer r) × Refuses at r number
+  AnswerRefuses a number = (r : Refusal) × (a ≡ answer r) × Refuses at r number × NoLine r
 
-  pub refuse : (r : Refusal) → placeOf r ≡ at → AnswerRefuses (answer r) (numberOf r)
-  refuse r e = (r, refl, record { number-is = refl; place-is = e })
+  pub refuse : (r : Refusal) → placeOf r ≡ at → NoLine r → AnswerRefuses (answer r) (numberOf r)
+  refuse r e o = (r, refl, record { number-is = refl; place-is = e }, o)

@@ -21,8 +21,11 @@ use Rattle.plot_promises.specs.Checks.{Zeros, RecordFault}
 use Rattle.plot.specs.Answers.{lastNumber}
 use Rattle.plot.specs.Numbers.{numberOf, placeOf}
 use Rattle.plot_promises.specs.Canonical.{Holds, Rising}
+use Rattle.plot_promises.specs.Figures.{BadLineHere}
+use Rattle.plot.proofs.Lines.{hold-none, hold-first}
 use Rattle.plot.proofs.Lists.{front-five, low-byte, high-byte}
 use Rattle.plot_promises.proofs.Lines.{lines-hold-iff}
+use Rattle.plot_promises.proofs.Refusals.{LineOf}
 use Rattle.plot_promises.proofs.Place.{agree-iff}
 use Rattle.plot_promises.proofs.Turn.{TurnIs, ends, stops, goes-on, turn-is}
 use Rattle.plot.proofs.Cases.{Whole, whole}
@@ -31,15 +34,16 @@ use Rattle.plot.proofs.Entries.{reading-reads}
 
 -- lines are decided by their own bytes
 pub lines-prefix : (k : ℕ) (before : Line) (l r : List ℕ) → k * 3 ≤ length l → linesHold before k (l ++ r) ≡ linesHold before k l
-unfolding linesHold
-lines-prefix zero before l r h = refl
+lines-prefix zero before l r h = hold-none before (l ++ r) ∙ sym (hold-none before l)
 lines-prefix (suc k) before [] r h = absurd (let z : suc k * 3 ≤ 0 = h in omega arith)
 lines-prefix (suc k) before (x ∷ []) r h = absurd (let z : suc k * 3 ≤ 1 = h in omega arith)
 lines-prefix (suc k) before (x ∷ y ∷ []) r h = absurd (let z : suc k * 3 ≤ 2 = h in omega arith)
 lines-prefix (suc k) before (x ∷ y ∷ z ∷ l) r h =
     let g : suc k * 3 ≤ suc (suc (suc (length l))) = h in
     let m : Line = record { species = x; class = y; count = z } in
-    ap (λ (t : Bool). pick (lineHolds before m) t false) (lines-prefix k m l r (omega arith))
+    hold-first before k (x ∷ y ∷ z ∷ l ++ r)
+    ∙ ap (λ (t : Bool). pick (lineHolds before m) t false) (lines-prefix k m l r (omega arith))
+    ∙ sym (hold-first before k (x ∷ y ∷ z ∷ l))
 
 module _ (at last : ℕ) (s : List ℕ) (from count : ℕ) (next : Cursor) (e : stepAt at s ≡ Record from count next) where
   w : Whole at s from count next
@@ -136,13 +140,14 @@ pub record Stops (at last : ℕ) (s : List ℕ) (r : Refusal) : Type 0 where
   pub fronts : Fronts last s plots
   pub begins : at + length (bytesOf plots) ≡ placeOf r
   pub fault : RecordFault (lastNumber last plots) (drop (length (bytesOf plots)) s) (numberOf r)
+  pub line : LineOf (BadLineHere (drop (length (bytesOf plots)) s)) r
 
 abbrev pub ReadIs : ℕ → ℕ → List ℕ → Parsed → Type 0
 ReadIs at last s (Plots ps end) = Ends at last s ps end
 ReadIs at last s (Stopped r) = Stops at last s r
 
-stops-here : (at last : ℕ) (s : List ℕ) (r : Refusal) → placeOf r ≡ at → RecordFault last s (numberOf r) → Stops at last s r
-stops-here at last s r p h = record { plots = []; fronts = fronts-none last s; begins = add-zero at ∙ sym p; fault = h }
+stops-here : (at last : ℕ) (s : List ℕ) (r : Refusal) → placeOf r ≡ at → LineOf (BadLineHere s) r → RecordFault last s (numberOf r) → Stops at last s r
+stops-here at last s r p l h = record { plots = []; fronts = fronts-none last s; begins = add-zero at ∙ sym p; fault = h; line = l }
 
 -- a record whose lines hold and whose number rises, before what is read after it
 module _ (at last : ℕ) (s : List ℕ) (from count : ℕ) (next : Cursor) (e : stepAt at s ≡ Record from count next)
@@ -164,6 +169,7 @@ module _ (at last : ℕ) (s : List ℕ) (from count : ℕ) (next : Cursor) (e : 
     fronts = fronts-more at last s from count next e (i .plots) g rise (i .fronts);
     begins = goes-past (placeOf r) (i .plots) (i .begins);
     fault = subst (λ (t : List ℕ). RecordFault (lastNumber (next .last) (i .plots)) t (numberOf r)) (rest-after at last s from count next e (i .plots)) (i .fault);
+    line = subst (λ (t : List ℕ). LineOf (BadLineHere t) r) (rest-after at last s from count next e (i .plots)) (i .line);
   }
 
 abbrev Steps : ℕ → Type 0
@@ -171,7 +177,7 @@ Steps f = (at last : ℕ) (s : List ℕ) → length s ≤ f → ReadIs at last s
 
 turn : (f : ℕ) → Steps f → (at last : ℕ) (s : List ℕ) → length s ≤ suc f → TurnIs f at last s → ReadIs at last s (readFrom (suc f) at last s)
 turn f ih at last s h (ends z q) = subst (ReadIs at last s) (sym q) (record { fronts = fronts-none last s; ends = add-zero at; zeros = z })
-turn f ih at last s h (stops r q p k) = subst (ReadIs at last s) (sym q) (stops-here at last s r p k)
+turn f ih at last s h (stops r q p l k) = subst (ReadIs at last s) (sym q) (stops-here at last s r p l k)
 turn f ih at last s h (goes-on z from count next e g rise a q) =
     let l : length (drop (recordLength count) s) ≡ length s - recordLength count = length-drop (recordLength count) s in
     let rest = drop (recordLength count) s in

@@ -15,6 +15,7 @@ use Rattle.plot.specs.Numbers.{numberOf, placeOf}
 use Rattle.plot_promises.specs.Checks.{NoneFails, headerChecks, Zeros, FaultAt}
 use Rattle.plot_promises.specs.Refusals.{SteppingExactly}
 use Rattle.plot_promises.proofs.Place.{recordHere, StepIs, ends, stops, goes-on, step-is}
+use Rattle.plot_promises.proofs.Refusals.{NoLine}
 use Rattle.plot_promises.proofs.Turn.{zeros-first, fault-one, not-zeros, not-record}
 
 -- the three answers differ
@@ -44,18 +45,18 @@ module _ (at : ℕ) (s : List ℕ) where
 
   ended : StepIs at s → stepAt at s ≡ End → Zeros s
   ended (ends z e) q = z
-  ended (stops r e p k) q = absurd (end-refused r (sym q ∙ e))
+  ended (stops r e p o k) q = absurd (end-refused r (sym q ∙ e))
   ended (goes-on z a e) q = absurd (end-record _ _ _ (sym q ∙ e))
 
   zeros-end : StepIs at s → Zeros s → stepAt at s ≡ End
   zeros-end (ends z e) h = e
-  zeros-end (stops r e p k) h = absurd (not-zeros (headerChecks s) s (numberOf r) k h)
+  zeros-end (stops r e p o k) h = absurd (not-zeros (headerChecks s) s (numberOf r) k h)
   zeros-end (goes-on z a e) h = absurd (z (zeros-first s h))
 
   record-is : (lines count : ℕ) (next : Cursor) → StepIs at s → stepAt at s ≡ Record lines count next → RecordIs lines count next
   unfolding atOf lastOf
   record-is lines count next (ends z e) q = absurd (end-record lines count next (sym e ∙ q))
-  record-is lines count next (stops r e p k) q = absurd (record-refused lines count next r (sym q ∙ e))
+  record-is lines count next (stops r e p o k) q = absurd (record-refused lines count next r (sym q ∙ e))
   record-is lines count next (goes-on z a e) q =
       let same : Record lines count next ≡ recordHere at s = sym q ∙ e in
       let l : lines ≡ at + headerLength = cc same in
@@ -64,7 +65,7 @@ module _ (at : ℕ) (s : List ℕ) where
 
   is-record : (lines count : ℕ) (next : Cursor) → StepIs at s → RecordIs lines count next → stepAt at s ≡ Record lines count next
   is-record lines count next (ends z e) h = absurd (h .0 (zeros-first s z))
-  is-record lines count next (stops r e p k) h = absurd (not-record (headerChecks s) s (numberOf r) (h .0) k (h .1))
+  is-record lines count next (stops r e p o k) h = absurd (not-record (headerChecks s) s (numberOf r) (h .0) k (h .1))
   is-record lines count next (goes-on z a e) h =
       let l : at + headerLength ≡ lines = sym (h .2) in
       let c : countOf s ≡ count = sym (h .3) in
@@ -77,7 +78,7 @@ module _ (at : ℕ) (s : List ℕ) where
 
   fault-is : (number place : ℕ) → StepIs at s → RefusedAt number place → FaultAt (headerChecks s) s number × (place ≡ at)
   fault-is number place (ends z e) h = absurd (end-refused (h .0) (sym e ∙ h .1))
-  fault-is number place (stops r e p k) h =
+  fault-is number place (stops r e p o k) h =
       let same : Refused (h .0) ≡ Refused r = sym (h .1) ∙ e in
       let is : h .0 ≡ r = cc same in
       (subst (FaultAt (headerChecks s) s) (sym (ap numberOf is) ∙ h .2) k, sym (h .3) ∙ ap placeOf is ∙ p)
@@ -85,8 +86,20 @@ module _ (at : ℕ) (s : List ℕ) where
 
   is-fault : (number place : ℕ) → StepIs at s → FaultAt (headerChecks s) s number → place ≡ at → RefusedAt number place
   is-fault number place (ends z e) f q = absurd (not-zeros (headerChecks s) s number f z)
-  is-fault number place (stops r e p k) f q = (r, e, fault-one (headerChecks s) s (numberOf r) number k f, p ∙ sym q)
+  is-fault number place (stops r e p o k) f q = (r, e, fault-one (headerChecks s) s (numberOf r) number k f, p ∙ sym q)
   is-fault number place (goes-on z a e) f q = absurd (not-record (headerChecks s) s number z f a)
+
+-- what stands at a place names no line
+pub stepping-no-line : (at : ℕ) (s : List ℕ) (r : Refusal) → stepAt at s ≡ Refused r → NoLine r
+stepping-no-line at s r q = by-step (step-is at s)
+  where
+    by-step : StepIs at s → NoLine r
+    by-step (ends z e) = absurd (end-refused r (sym e ∙ q))
+    by-step (stops r′ e p o k) =
+        let same : Refused r′ ≡ Refused r = sym e ∙ q in
+        let is : r′ ≡ r = cc same in
+        subst NoLine is o
+    by-step (goes-on z a e) = absurd (record-refused _ _ _ r (sym e ∙ q))
 
 pub stepping-exactly : (at : ℕ) (s : List ℕ) → SteppingExactly at s
 stepping-exactly at s =

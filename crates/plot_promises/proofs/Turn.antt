@@ -11,74 +11,21 @@ use lib.ListN.{length, getD, drop}
 use Rattle.lists.proofs.Test.{true-or-false, true-false, lt-or-ge}
 use Rattle.plot.specs.declared.Cursor.{Cursor}
 use Rattle.plot.specs.declared.Refusal.{Refusal}
-use Rattle.plot.specs.declared.Refusal.the-variants.{BadTally, PlotOrder}
+use Rattle.plot.specs.declared.Refusal.the-variants.{PlotOrder}
 use Rattle.plot.specs.declared.Step.the-variants.{Record}
-use Rattle.plot.specs.Layout.{headerLength, plotOf, countOf, recordLength, noLine, linesHold}
+use Rattle.plot.specs.Layout.{headerLength, plotOf, countOf, recordLength, noLine, linesCheck, linesHold}
 use Rattle.plot_promises.specs.Lines.{LinesHold}
+use Rattle.plot_promises.specs.Figures.{BadLineHere}
 use Rattle.plot_promises.specs.Checks.{Check, _unless_, NoneFails, headerChecks, recordChecks, Zeros, FaultAt, RecordFault, inZeros, inRecord}
-use Rattle.plot.specs.Grammar.{stepAt, Plots, Stopped, onto, readFrom}
+use Rattle.plot.specs.Grammar.{badLine, stepAt, Plots, Stopped, onto, readFrom}
 use Rattle.plot.specs.Numbers.{numberOf, placeOf}
 use Rattle.plot.proofs.Cases.{plotHere, read-end, read-refused, read-lines, read-order, read-on}
 use Rattle.plot_promises.proofs.Lines.{lines-hold-iff}
 use Rattle.plot_promises.proofs.Checks.{first-one, not-both, first-before, first-after, all-after}
-use Rattle.plot_promises.proofs.Refusals.{Refuses}
+use Rattle.plot_promises.proofs.Refusals.{Refuses, Tells, LineOf, in-line, in-none}
+use Rattle.plot_promises.proofs.FirstBad.{bad-index, bad-figure, not-hold-first, hold-no-first}
 use Rattle.plot_promises.proofs.Place as place
 use Rattle.plot_promises.proofs.Place.{recordHere, StepIs, step-is}
-
--- the two checks after those of the header
-abbrev lineChecks : ℕ → List ℕ → List Check
-lineChecks last s = (7 unless (LinesHold (countOf s) (drop headerLength s))) ∷ (8 unless (last < plotOf s)) ∷ []
-
-fault-more : (checks more : List Check) (s : List ℕ) (k : ℕ) → FaultAt checks s k → FaultAt (checks ++ more) s k
-fault-more checks more s k (inZeros z h e) = inZeros z h e
-fault-more checks more s k (inRecord z h) = inRecord z (first-before checks more k h)
-
-module _ (f at last : ℕ) (s : List ℕ) where
-  pub data TurnIs : Type 0 where
-    ends : Zeros s → readFrom (suc f) at last s ≡ Plots [] at → TurnIs
-    stops : (r : Refusal) → readFrom (suc f) at last s ≡ Stopped r → placeOf r ≡ at → RecordFault last s (numberOf r) → TurnIs
-    goes-on : getD s 0 0 ≢ 0 → (from count : ℕ) (next : Cursor) (e : stepAt at s ≡ Record from count next) → linesHold noLine count (drop headerLength s) ≡ true → last < next .last
-        → NoneFails (recordChecks last s)
-        → readFrom (suc f) at last s ≡ onto (plotHere at last s from count next e) (readFrom f (next .at) (next .last) (drop (recordLength count) s)) → TurnIs
-
-  -- a record whose header holds
-  module _ (z : getD s 0 0 ≢ 0) (a : NoneFails (headerChecks s)) (e : stepAt at s ≡ recordHere at s) where
-    abbrev next : Cursor
-    next = record { at = at + recordLength (countOf s); last = plotOf s }
-
-    lines-fail : linesHold noLine (countOf s) (drop headerLength s) ≡ false → TurnIs
-    lines-fail g =
-        stops (BadTally at) (read-lines at last s _ (countOf s) next e (suc f) (suc-le-suc zero-le) g) refl
-        (inRecord z (first-after (headerChecks s) (lineChecks last s) 7 a (inl ((λ k. true-false (lines-hold-iff _ _ .1 k) g), refl))))
-
-    module _ (g : linesHold noLine (countOf s) (drop headerLength s) ≡ true) where
-      rise-fails : plotOf s ≤ last → TurnIs
-      rise-fails o =
-          stops (PlotOrder at) (read-order at last s _ (countOf s) next e g (suc f) (suc-le-suc zero-le) o) refl
-          (inRecord z (first-after (headerChecks s) (lineChecks last s) 8 a (inr (lines-hold-iff _ _ .0 g, inl ((λ k. omega arith), refl)))))
-
-      rises-on : last < plotOf s → TurnIs
-      rises-on o =
-          let y : suc f - 1 ≡ f = omega arith in
-          let rest = drop (recordLength (countOf s)) s in
-          goes-on z _ (countOf s) next e g o (all-after (headerChecks s) (lineChecks last s) a (lines-hold-iff _ _ .0 g, (o, tt)))
-          (read-on at last s _ (countOf s) next e g (suc f) (suc-le-suc zero-le) o
-          ∙ ap (λ (n : ℕ). onto (plotHere at last s _ (countOf s) next e) (readFrom n (next .at) (next .last) rest)) y)
-
-    turn-record : TurnIs
-    turn-record =
-        ⊎-elim
-        (λ g. ⊎-elim (rises-on g) (rise-fails g) (lt-or-ge last (plotOf s)))
-        lines-fail
-        (true-or-false (linesHold noLine (countOf s) (drop headerLength s)))
-
-  turn-step : length s ≤ suc f → StepIs at s → TurnIs
-  turn-step h (place.ends z e) = ends z (read-end at last s (suc f) e)
-  turn-step h (place.stops r e p k) = stops r (read-refused at last s (suc f) r h e) p (fault-more (headerChecks s) (lineChecks last s) s (numberOf r) k)
-  turn-step h (place.goes-on z a e) = turn-record z a e
-
-  pub turn-is : length s ≤ suc f → TurnIs
-  turn-is h = turn-step h (step-is at s)
 
 pub zeros-first : (s : List ℕ) → Zeros s → getD s 0 0 ≡ 0
 zeros-first [] h = refl
@@ -100,6 +47,73 @@ module _ (checks : List Check) (s : List ℕ) where
   not-record k z (inZeros y h e) a = z y
   not-record k z (inRecord y h) a = not-both checks k h a
 
+-- a header that holds begins with the mark, so not with a zero
+pub header-some : (s : List ℕ) → NoneFails (headerChecks s) → getD s 0 0 ≢ 0
+header-some s h z =
+    let l : headerLength ≤ length s = h .1 .0 in
+    let m : getD s 0 0 ≡ 0x50 = h .0 0 (omega arith) (suc-le-suc zero-le) in
+    omega arith
+
+-- the two checks after those of the header
+abbrev lateChecks : ℕ → List ℕ → List Check
+lateChecks last s = (7 unless (LinesHold (countOf s) (drop headerLength s))) ∷ (8 unless (last < plotOf s)) ∷ []
+
+fault-more : (checks more : List Check) (s : List ℕ) (k : ℕ) → FaultAt checks s k → FaultAt (checks ++ more) s k
+fault-more checks more s k (inZeros z h e) = inZeros z h e
+fault-more checks more s k (inRecord z h) = inRecord z (first-before checks more k h)
+
+module _ (f at last : ℕ) (s : List ℕ) where
+  pub data TurnIs : Type 0 where
+    ends : Zeros s → readFrom (suc f) at last s ≡ Plots [] at → TurnIs
+    stops : (r : Refusal) → readFrom (suc f) at last s ≡ Stopped r → placeOf r ≡ at → LineOf (BadLineHere s) r → RecordFault last s (numberOf r) → TurnIs
+    goes-on : getD s 0 0 ≢ 0 → (from count : ℕ) (next : Cursor) (e : stepAt at s ≡ Record from count next) → linesHold noLine count (drop headerLength s) ≡ true → last < next .last
+        → NoneFails (recordChecks last s)
+        → readFrom (suc f) at last s ≡ onto (plotHere at last s from count next e) (readFrom f (next .at) (next .last) (drop (recordLength count) s)) → TurnIs
+
+  -- a record whose header holds
+  module _ (z : getD s 0 0 ≢ 0) (a : NoneFails (headerChecks s)) (e : stepAt at s ≡ recordHere at s) where
+    abbrev next : Cursor
+    next = record { at = at + recordLength (countOf s); last = plotOf s }
+
+    lines-fail : linesHold noLine (countOf s) (drop headerLength s) ≡ false → TurnIs
+    lines-fail g =
+        let b = not-hold-first (drop headerLength s) (countOf s) g in
+        stops (badLine at (linesCheck noLine 0 (countOf s) (drop headerLength s))) (read-lines at last s _ (countOf s) next e (suc f) (suc-le-suc zero-le) g) refl
+        (in-line refl (b .0) (a, b .1))
+        (inRecord z (first-after (headerChecks s) (lateChecks last s) 7 a (inl ((λ k. true-false (lines-hold-iff _ _ .1 k) g), refl))))
+
+    module _ (g : linesHold noLine (countOf s) (drop headerLength s) ≡ true) where
+      rise-fails : plotOf s ≤ last → TurnIs
+      rise-fails o =
+          stops (PlotOrder at) (read-order at last s _ (countOf s) next e g (suc f) (suc-le-suc zero-le) o) refl
+          (in-none (refl, refl) (λ j i x. hold-no-first (drop headerLength s) (countOf s) (lines-hold-iff _ _ .0 g) j i (x .1)))
+          (inRecord z (first-after (headerChecks s) (lateChecks last s) 8 a (inr (lines-hold-iff _ _ .0 g, inl ((λ k. omega arith), refl)))))
+
+      rises-on : last < plotOf s → TurnIs
+      rises-on o =
+          let y : suc f - 1 ≡ f = omega arith in
+          let rest = drop (recordLength (countOf s)) s in
+          goes-on z _ (countOf s) next e g o (all-after (headerChecks s) (lateChecks last s) a (lines-hold-iff _ _ .0 g, (o, tt)))
+          (read-on at last s _ (countOf s) next e g (suc f) (suc-le-suc zero-le) o
+          ∙ ap (λ (n : ℕ). onto (plotHere at last s _ (countOf s) next e) (readFrom n (next .at) (next .last) rest)) y)
+
+    turn-record : TurnIs
+    turn-record =
+        ⊎-elim
+        (λ g. ⊎-elim (rises-on g) (rise-fails g) (lt-or-ge last (plotOf s)))
+        lines-fail
+        (true-or-false (linesHold noLine (countOf s) (drop headerLength s)))
+
+  turn-step : length s ≤ suc f → StepIs at s → TurnIs
+  turn-step h (place.ends z e) = ends z (read-end at last s (suc f) e)
+  turn-step h (place.stops r e p o k) =
+      stops r (read-refused at last s (suc f) r h e) p (in-none o (λ j i x. not-record (headerChecks s) s (numberOf r) (header-some s (x .0)) k (x .0)))
+      (fault-more (headerChecks s) (lateChecks last s) s (numberOf r) k)
+  turn-step h (place.goes-on z a e) = turn-record z a e
+
+  pub turn-is : length s ≤ suc f → TurnIs
+  turn-is h = turn-step h (step-is at s)
+
 -- so the reading stops by it
 pub fault-reads : (f at last : ℕ) (s : List ℕ) (k : ℕ) → length s ≤ f → RecordFault last s k → (r : Refusal) × (readFrom f at last s ≡ Stopped r) × Refuses at r k
 fault-reads zero at last s k h x = absurd (not-zeros (recordChecks last s) s k x (λ i l. absurd (let y : i < 0 = omega arith in not-suc-le-zero y)))
@@ -107,5 +121,19 @@ fault-reads (suc f) at last s k h x = by-turn (turn-is f at last s h)
   where
     by-turn : TurnIs f at last s → (r : Refusal) × (readFrom (suc f) at last s ≡ Stopped r) × Refuses at r k
     by-turn (ends z q) = absurd (not-zeros (recordChecks last s) s k x z)
-    by-turn (stops r q p y) = (r, q, record { number-is = fault-one (recordChecks last s) s (numberOf r) k y x; place-is = p })
+    by-turn (stops r q p l y) = (r, q, record { number-is = fault-one (recordChecks last s) s (numberOf r) k y x; place-is = p })
     by-turn (goes-on z from count next e g rise a q) = absurd (not-record (recordChecks last s) s k z x a)
+
+-- and by a line that fails, with its figure and its index
+pub line-reads : (f at last : ℕ) (s : List ℕ) (figure index : ℕ) → length s ≤ f → BadLineHere s figure index
+    → (r : Refusal) × (readFrom f at last s ≡ Stopped r) × Tells r at figure index
+line-reads zero at last s figure index h b =
+    let l : headerLength ≤ length s = b .0 .1 .0 in
+    absurd (let y : 5 ≤ 0 = omega arith in not-suc-le-zero y)
+line-reads (suc f) at last s figure index h b = by-turn (turn-is f at last s h)
+  where
+    by-turn : TurnIs f at last s → (r : Refusal) × (readFrom (suc f) at last s ≡ Stopped r) × Tells r at figure index
+    by-turn (ends z q) = absurd (header-some s (b .0) (zeros-first s z))
+    by-turn (stops r q p (in-line n z x) y) = (r, q, (n, p, bad-figure _ _ _ _ _ _ (x .1) (b .1), bad-index _ _ _ _ _ _ (x .1) (b .1)))
+    by-turn (stops r q p (in-none o never) y) = absurd (never figure index b)
+    by-turn (goes-on z from count cursor e g rise a q) = absurd (hold-no-first (drop headerLength s) (countOf s) (a .1 .1 .1 .1 .1 .0) figure index (b .1))

@@ -8,7 +8,7 @@ use lib.ListN.{length, getD, drop}
 use Rattle.plot.specs.Layout.{Plot, mark, headerLength, plotOf, countOf, recordLength, linesOf, recordOf}
 use Rattle.plot_promises.specs.Lines.{LinesHold}
 
--- a check, with the number of the refusal where it does not hold
+-- a check, with the number that is told where it does not hold: that of the refusal, or of a value in a line
 infixl 68 _unless_
 pub data Check : Type 1 where
   _unless_ : ℕ → Type 0 → Check
@@ -56,13 +56,16 @@ pub data FaultAt (checks : List Check) (s : List ℕ) (number : ℕ) : Type 0 wh
 abbrev pub RecordFault : ℕ → List ℕ → ℕ → Type 0
 RecordFault last s number = FaultAt (recordChecks last s) s number
 
+-- the checks of an added plot before its lines
+abbrev pub lentChecks : Plot → List Check
+lentChecks p = (7 unless ((length (p .lines) ≤ 120) × (length (p .lines) % 3 ≡ 0))) ∷ (7 unless (p .number ≢ 0)) ∷ []
+
 -- adding a plot, after the payload's own check: "the length of the lent lines (7: 0 to 120 bytes, three a line), then that the plot number isn't 0, then the
 -- lines in turn, then the rise, then the space", where the records end at `end`, the last has the number `last`, and the payload has `size` bytes
 abbrev pub addChecks : ℕ → ℕ → ℕ → Plot → List Check
 addChecks size end last p =
-    (7 unless ((length (p .lines) ≤ 120) × (length (p .lines) % 3 ≡ 0)))
-    ∷ (7 unless (p .number ≢ 0))
-    ∷ (7 unless (LinesHold (linesOf p) (p .lines)))
+    lentChecks p
+    ++ ((7 unless (LinesHold (linesOf p) (p .lines)))
     ∷ (8 unless (last < p .number))
     ∷ (10 unless (end + length (recordOf p) ≤ size))
-    ∷ []
+    ∷ [])

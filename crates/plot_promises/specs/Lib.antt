@@ -2,3 +2,4 @@ pub mod Lines
 pub mod Checks
 pub mod Canonical
 pub mod Refusals
+pub mod Figures

@@ -14,10 +14,19 @@ abbrev pub lineAt : List ℕ → ℕ → Line
 lineAt lines i = lineOf (drop (i * 3) lines)
 
 -- "species number 1 to 99, diameter class 1 to 200 .., tree count 1 to 255"
+abbrev pub SpeciesInRange : Line → Type 0
+SpeciesInRange line = (1 ≤ line .species) × (line .species ≤ 99)
+
+abbrev pub ClassInRange : Line → Type 0
+ClassInRange line = (1 ≤ line .class) × (line .class ≤ 200)
+
+abbrev pub CountInRange : Line → Type 0
+CountInRange line = (1 ≤ line .count) × (line .count ≤ 255)
+
 pub record InRanges (line : Line) : Type 0 where
-  pub species : (1 ≤ line .species) × (line .species ≤ 99)
-  pub class : (1 ≤ line .class) × (line .class ≤ 200)
-  pub count : (1 ≤ line .count) × (line .count ≤ 255)
+  pub species : SpeciesInRange line
+  pub class : ClassInRange line
+  pub count : CountInRange line
 
 -- "Lines rise strictly by species, then class."
 abbrev pub Above : Line → Line → Type 0

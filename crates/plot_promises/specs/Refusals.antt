@@ -30,15 +30,19 @@ pub record SteppingExactly (at : ℕ) (s : List ℕ) : Type 0 where
   pub refused : (number place : ℕ)
       → ((r : Refusal) × (stepAt at s ≡ Refused r) × (numberOf r ≡ number) × (placeOf r ≡ place)) ↔ (FaultAt (headerChecks s) s number × (place ≡ at))
 
--- the records of plots that hold and rise, then, at `place`, bytes at which the check of this number is the first that fails
-pub record StopsAt (s : List ℕ) (number place : ℕ) : Type 0 where
+-- the records of plots that hold and rise, then, at `place`, bytes of which `Here` is true, after a plot of the number that it is told
+pub record AfterPlots (Here : ℕ → List ℕ → Type 0) (s : List ℕ) (place : ℕ) : Type 0 where
   pub short : length s ≤ 4048
   pub plots : List Plot
   pub rest : List ℕ
   pub rising : Rising 0 plots
   pub form : s ≡ bytesOf plots ++ rest
   pub begins : place ≡ endOf plots
-  pub fault : RecordFault (lastNumber 0 plots) rest number
+  pub here : Here (lastNumber 0 plots) rest
+
+-- bytes at which the check of this number is the first that fails
+abbrev pub StopsAt : List ℕ → ℕ → ℕ → Type 0
+StopsAt s number place = AfterPlots (λ (last : ℕ) (rest : List ℕ). RecordFault last rest number) s place
 
 -- a payload that is refused: 2 at place 0 if it "exceeds 4,048 bytes", before all others; else by "the first failing check of the first failing record"
 abbrev pub RefusedAs : List ℕ → ℕ → ℕ → Type 0

@@ -1,6 +1,11 @@
 -- The checks of an added plot in their order: each return is a case of `roomFor`.
 use native.Mathlib.Omega.{arith}
-use mathlib.Core.Path.{sym, ap, _∙_}
+use Prim.Native.Nat.{_/_}
+use mathlib.Core.Path.{_≡_, sym, ap, _∙_}
+use mathlib.Core.Bool.{true}
+use lib.ListN.{length}
+use Rattle.plot.specs.Layout.{noLine, linesHold}
+use Rattle.plot.proofs.Lines.{all-held}
 use Rattle.plot.specs.declared.Added.the-variants.{Refused}
 use Rattle.plot.proofs.Entries.{add-long, add-odd, add-zero-plot, add-lines, add-order, add-full, add-here}
 use borrow.Author.Needs.{needs}
@@ -37,12 +42,14 @@ returns-4 c =
     add-lines _ _ _ _ (d .before .before .before .if1 .left) (d .before .before .if2 .left) (d .before .if3 .left) _ (d .check-lines .ensures)
     (λ z. c .if4 .taken (c .before .number .ensures ∙ z))
 
+-- past that test the lines hold
+hold : (c : tie.Else4) → let p = c .before .before .before .before .before .before .before .args .lines .now in linesHold noLine (length p / 3) p ≡ true
+hold c = all-held _ _ _ _ (sym (c .before .before .check-lines .ensures)) (sym (c .before .number .ensures) ∙ c .if4 .left)
+
 returns-5 : tie.Need-returns-5
 returns-5 c =
-    let e = c .before .before in
-    let d = e .before .before in
-    add-order _ _ _ _ (d .before .before .before .if1 .left) (d .before .before .if2 .left) (d .before .if3 .left) _ (d .check-lines .ensures)
-    (sym (e .before .number .ensures) ∙ e .if4 .left) (c .if5 .taken)
+    let d = c .before .before .before .before in
+    add-order _ _ _ _ (d .before .before .before .if1 .left) (d .before .before .if2 .left) (d .before .if3 .left) (hold (c .before .before)) (c .if5 .taken)
 
 sub-if6 : tie.Need-sub-if6
 sub-if6 c = omega arith
@@ -52,17 +59,13 @@ add-if6 c = search needs
 
 returns-6 : tie.Need-returns-6
 returns-6 c =
-    let e = c .before .before .before in
-    let d = e .before .before in
-    add-full _ _ _ _ (d .before .before .before .if1 .left) (d .before .before .if2 .left) (d .before .if3 .left) _ (d .check-lines .ensures)
-    (sym (e .before .number .ensures) ∙ e .if4 .left) (c .before .if5 .left) (c .if6 .taken)
+    let d = c .before .before .before .before .before in
+    add-full _ _ _ _ (d .before .before .before .if1 .left) (d .before .before .if2 .left) (d .before .if3 .left) (hold (c .before .before .before)) (c .before .if5 .left) (c .if6 .taken)
 
 returns-7 : tie.Need-returns-7
 returns-7 c =
-    let e = c .before .before .before in
-    let d = e .before .before in
-    add-here _ _ _ _ (d .before .before .before .if1 .left) (d .before .before .if2 .left) (d .before .if3 .left) _ (d .check-lines .ensures)
-    (sym (e .before .number .ensures) ∙ e .if4 .left) (c .before .if5 .left) (c .if6 .left)
+    let d = c .before .before .before .before .before in
+    add-here _ _ _ _ (d .before .before .before .if1 .left) (d .before .before .if2 .left) (d .before .if3 .left) (hold (c .before .before .before)) (c .before .if5 .left) (c .if6 .left)
 
 pub room-spec : {M : Type 1} → statement M
 room-spec =
