@@ -11,7 +11,7 @@ ghost use Rattle.sheet.specs.Sheet.{writeSheetAnswer, writeSheetLeaves, readAns
 ghost use Rattle.sheet.specs.Numbers.{readingNumber, readingPlace, readingChanged};
 ghost use Rattle.plot.specs.Grammar.{reading};
 ghost use Rattle.plot.specs.Answers.{checked, located, added, payloadWith};
-ghost use Rattle.plot.specs.Numbers.{payloadNumber, payloadPlace, payloadEnd, locatedNumber, locatedPlace, locatedStart, locatedLength, addedNumber, addedPlace, addedStart};
+ghost use Rattle.plot.specs.Numbers.{payloadNumber, payloadPlace, payloadFigure, payloadIndex, payloadEnd, locatedNumber, locatedPlace, locatedFigure, locatedIndex, locatedStart, locatedLength, addedNumber, addedPlace, addedFigure, addedIndex, addedStart};
 ghost use Rattle.listing_text.specs.Text.{listingText, refusalText};
 ghost use Rattle.listing_text.specs.Buffer.{textIn, textLength};
 ghost use Rattle.listing.specs.Listing.{listed};
@@ -282,52 +282,73 @@ pub extern "C" fn tishwabe_read_sheet_spots(
 
 // ---- plots
 
-/// Checks a payload: the byte after the last record, or the place of the refusal.
+/// Checks a payload: the byte after the last record, or the place of the refusal; and the figure and the index of the line at fault.
 #[no_mangle]
-pub extern "C" fn tishwabe_check_payload(payload: &[u8], place: &mut usize) -> usize
+pub extern "C" fn tishwabe_check_payload(
+    payload: &[u8],
+    place: &mut usize,
+    figure: &mut usize,
+    line: &mut usize,
+) -> usize
     ensures { λ z. ⌜ z ≡ payloadNumber (checked (now (payload .entry))) ⌝ }
     ensures { λ _. ⌜ (let a = checked (now (payload .entry)) in now (place .exit) ≡ valueOrPlace (payloadNumber a) (payloadEnd a) (payloadPlace a)) ⌝ }
+    ensures { λ _. ⌜ now (figure .exit) ≡ payloadFigure (checked (now (payload .entry))) ⌝ }
+    ensures { λ _. ⌜ now (line .exit) ≡ payloadIndex (checked (now (payload .entry))) ⌝ }
 {
     let answer = plot::check(payload);
     let number = answer.number() as usize;
     *place = value_or_place(number, answer.end(), answer.place());
+    *figure = answer.figure() as usize;
+    *line = answer.index();
     number
 }
 
-/// Asks for a plot: the record's first byte, or the place of the refusal, and the record's length.
+/// Asks for a plot: the record's first byte, or the place of the refusal, and the record's length; and the figure and the index of the line at fault.
 #[no_mangle]
 pub extern "C" fn tishwabe_ask(
     payload: &[u8],
     plot: u16,
     place: &mut usize,
     length: &mut usize,
+    figure: &mut usize,
+    line: &mut usize,
 ) -> usize
     ensures { λ z. ⌜ z ≡ locatedNumber (located plot (now (payload .entry))) ⌝ }
     ensures { λ _. ⌜ (let a = located plot (now (payload .entry)) in now (place .exit) ≡ valueOrPlace (locatedNumber a) (locatedStart a) (locatedPlace a)) ⌝ }
     ensures { λ _. ⌜ now (length .exit) ≡ locatedLength (located plot (now (payload .entry))) ⌝ }
+    ensures { λ _. ⌜ now (figure .exit) ≡ locatedFigure (located plot (now (payload .entry))) ⌝ }
+    ensures { λ _. ⌜ now (line .exit) ≡ locatedIndex (located plot (now (payload .entry))) ⌝ }
 {
     let found = plot::locate(payload, plot);
     let number = found.number() as usize;
     *place = value_or_place(number, found.start(), found.place());
     *length = found.length();
+    *figure = found.figure() as usize;
+    *line = found.index();
     number
 }
 
-/// Adds a plot: the record's first byte, or the place of the refusal.
+/// Adds a plot: the record's first byte, or the place of the refusal; and the figure and the index of the line at fault.
 #[no_mangle]
 pub extern "C" fn tishwabe_add(
     payload: &mut [u8],
     plot: u16,
     lines: &[u8],
     place: &mut usize,
+    figure: &mut usize,
+    line: &mut usize,
 ) -> usize
     ensures { λ z. ⌜ z ≡ addedNumber (added (record { number = plot; lines = now (lines .entry) }) (now (payload .entry))) ⌝ }
     ensures { λ _. ⌜ (let a = added (record { number = plot; lines = now (lines .entry) }) (now (payload .entry)) in now (place .exit) ≡ valueOrPlace (addedNumber a) (addedStart a) (addedPlace a)) ⌝ }
+    ensures { λ _. ⌜ now (figure .exit) ≡ addedFigure (added (record { number = plot; lines = now (lines .entry) }) (now (payload .entry))) ⌝ }
+    ensures { λ _. ⌜ now (line .exit) ≡ addedIndex (added (record { number = plot; lines = now (lines .entry) }) (now (payload .entry))) ⌝ }
     ensures { λ _. ⌜ now (payload .exit) ≡ payloadWith (record { number = plot; lines = now (lines .entry) }) (now (payload .entry)) ⌝ }
 {
     let answer = plot::add(payload, plot, lines);
     let number = answer.number() as usize;
     *place = value_or_place(number, answer.start(), answer.place());
+    *figure = answer.figure() as usize;
+    *line = answer.index();
     number
 }
 

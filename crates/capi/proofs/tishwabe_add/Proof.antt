@@ -1,5 +1,5 @@
 -- The answer and the payload of adding, with the numbers of the answer.
-use Rattle.plot.specs.Numbers.{addedNumber, addedStart, addedPlace}
+use Rattle.plot.specs.Numbers.{addedNumber, addedStart, addedPlace, addedFigure, addedIndex}
 use Rattle.capi.proofs.Laws.{number-of, value-of}
 use borrow.Author.Needs.{needs}
 use Rattle.capi.proofs.tishwabe_add.Statement.{statement}
@@ -23,15 +23,25 @@ place-requires c κs = search needs
 value-or-place-requires : tie.Need-value-or-place-requires
 value-or-place-requires c κs = search needs
 
+figure-requires : tie.Need-figure-requires
+figure-requires c κs = search needs
+
+cast-figure : tie.Need-cast-figure
+cast-figure c = search needs
+
+index-requires : tie.Need-index-requires
+index-requires c κs = search needs
+
 same-length : tie.Need-same-length
 same-length c = search needs
 
 returns : tie.Need-returns
 returns c =
-    let w = c .before .before .before .before .before .before .add .ensures in
-    let n = c .before .before .before .number .ensures in
-    let p = value-of addedNumber addedStart addedPlace _ _ _ _ _ _ n (c .before .before .start .ensures) (c .before .place .ensures) (c .value-or-place .ensures) (w .0) in
-    (number-of addedNumber _ _ _ n (w .0), (p, w .1))
+    let d = c .before .before in
+    let w = d .before .before .before .before .before .before .add .ensures in
+    let n = d .before .before .before .number .ensures in
+    let p = value-of addedNumber addedStart addedPlace _ _ _ _ _ _ n (d .before .before .start .ensures) (d .before .place .ensures) (d .value-or-place .ensures) (w .0) in
+    (number-of addedNumber _ _ _ n (w .0), (p, (number-of addedFigure _ _ _ (c .before .figure .ensures) (w .0), (number-of addedIndex _ _ _ (c .index .ensures) (w .0), w .1))))
 
 pub tishwabe-add-spec : {M : Type 1} → statement M
 tishwabe-add-spec =
@@ -43,5 +53,8 @@ tishwabe-add-spec =
     start-requires
     place-requires
     value-or-place-requires
+    figure-requires
+    cast-figure
+    index-requires
     same-length
     returns)

@@ -1,5 +1,5 @@
 -- The answer of the companion of asking, as its numbers.
-use Rattle.plot.specs.Numbers.{locatedNumber, locatedStart, locatedPlace, locatedLength}
+use Rattle.plot.specs.Numbers.{locatedNumber, locatedStart, locatedPlace, locatedLength, locatedFigure, locatedIndex}
 use Rattle.capi.proofs.Laws.{number-of, value-of}
 use borrow.Author.Needs.{needs}
 use Rattle.capi.proofs.tishwabe_ask.Statement.{statement}
@@ -26,12 +26,24 @@ value-or-place-requires c κs = search needs
 length-requires : tie.Need-length-requires
 length-requires c κs = search needs
 
+figure-requires : tie.Need-figure-requires
+figure-requires c κs = search needs
+
+cast-figure : tie.Need-cast-figure
+cast-figure c = search needs
+
+index-requires : tie.Need-index-requires
+index-requires c κs = search needs
+
 returns : tie.Need-returns
 returns c =
-    let a = c .before .before .before .before .before .locate .ensures in
-    let n = c .before .before .before .before .number .ensures in
-    let p = value-of locatedNumber locatedStart locatedPlace _ _ _ _ _ _ n (c .before .before .before .start .ensures) (c .before .before .place .ensures) (c .before .value-or-place .ensures) a in
-    (number-of locatedNumber _ _ _ n a, (p, number-of locatedLength _ _ _ (c .length .ensures) a))
+    let d = c .before .before in
+    let a = d .before .before .before .before .before .locate .ensures in
+    let n = d .before .before .before .before .number .ensures in
+    let p = value-of locatedNumber locatedStart locatedPlace _ _ _ _ _ _ n (d .before .before .before .start .ensures) (d .before .before .place .ensures) (d .before .value-or-place .ensures) a in (
+      number-of locatedNumber _ _ _ n a,
+      (p, (number-of locatedLength _ _ _ (d .length .ensures) a, (number-of locatedFigure _ _ _ (c .before .figure .ensures) a, number-of locatedIndex _ _ _ (c .index .ensures) a))),
+    )
 
 pub tishwabe-ask-spec : {M : Type 1} → statement M
 tishwabe-ask-spec =
@@ -44,4 +56,7 @@ tishwabe-ask-spec =
     place-requires
     value-or-place-requires
     length-requires
+    figure-requires
+    cast-figure
+    index-requires
     returns)
