@@ -6,7 +6,6 @@ mod tally;
 
 use record::HEADER;
 use record::all_zero;
-use record::bad_record;
 use record::head;
 use record::put_record;
 use tally::NO_LINE;
@@ -223,14 +222,20 @@ fn room(size: usize, c: Cursor, plot: u16, lines: &[u8]) -> Added
     ensures { λ r. ⌜ r ≡ roomFor size (c .at) (c .last) (record { number = plot; lines = now (lines .entry) }) ⌝ }
 {
     let at = c.at;
+    // A bad tally outside a line.
+    let outside = Refusal::BadTally {
+        place: at,
+        check: LineCheck::Holds,
+        index: 0,
+    };
     if 120 < lines.len() {
-        return Added::Refused(bad_record(at));
+        return Added::Refused(outside);
     }
     if lines.len() % 3 != 0 {
-        return Added::Refused(bad_record(at));
+        return Added::Refused(outside);
     }
     if plot == 0 {
-        return Added::Refused(bad_record(at));
+        return Added::Refused(outside);
     }
     let found = check_lines(lines);
     let check = found.check;

@@ -8,7 +8,7 @@ ghost use mathlib.Core.Path.{_≡_};
 ghost use Prim.Native.Nat.{_+_, _≤_, _<_, _^_};
 ghost use lib.ListN.{length};
 ghost use Rattle.plot.specs.Layout.{mark, headerLength, headerOf, recordOf};
-ghost use Rattle.plot.specs.Grammar.{allZero, agree, badRecord, headAt};
+ghost use Rattle.plot.specs.Grammar.{allZero, agree, headAt};
 
 // The mark before each record: compared by the reader, written by `add`.
 const MARK: [u8; 2] = [0x50, 0x4C];
@@ -46,22 +46,17 @@ fn has_mark(s: &[u8]) -> bool
     s[1] == MARK[1]
 }
 
-// A bad tally outside a line: more than 40 lines, a plot number 0, or lent lines of a bad length.
-pub(crate) fn bad_record(place: usize) -> Refusal
-    ensures { λ r. ⌜ r ≡ badRecord place ⌝ }
-{
-    Refusal::BadTally {
-        place,
-        check: LineCheck::Holds,
-        index: 0,
-    }
-}
-
 // The record at the front of s, which stands at `at` in the payload: its checks before the lines.
 pub(crate) fn head(s: &[u8], at: usize) -> Step
     requires { ⌜ at + length (now s) < 2 ^ 64 ⌝ }
     ensures { λ r. ⌜ r ≡ headAt at (now (s .entry)) ⌝ }
 {
+    // A bad tally outside a line.
+    let outside = Refusal::BadTally {
+        place: at,
+        check: LineCheck::Holds,
+        index: 0,
+    };
     if !has_mark(s) {
         return Step::Refused(Refusal::BadMark(at));
     }
@@ -70,20 +65,22 @@ pub(crate) fn head(s: &[u8], at: usize) -> Step
     }
     let count = s[4] as usize;
     if MOST_LINES < count {
-        return Step::Refused(bad_record(at));
+        return Step::Refused(outside);
     }
     if s.len() < HEADER + count * 3 {
         return Step::Refused(Refusal::CutShort(at));
     }
     let plot = s[2] as u16 + (s[3] as u16) * 256;
     if plot == 0 {
-        return Step::Refused(bad_record(at));
+        return Step::Refused(outside);
     }
+    let lines = at + HEADER;
+    let end = at + (HEADER + count * 3);
     Step::Record {
-        lines: at + HEADER,
+        lines,
         count,
         next: Cursor {
-            at: at + (HEADER + count * 3),
+            at: end,
             last: plot,
         },
     }

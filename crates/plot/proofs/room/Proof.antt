@@ -1,34 +1,24 @@
 -- The checks of an added plot in their order: each return is a case of `roomFor`.
 use native.Mathlib.Omega.{arith}
 use Prim.Native.Nat.{_/_}
-use mathlib.Core.Path.{_≡_, sym, ap, _∙_}
+use mathlib.Core.Path.{_≡_, sym, _∙_}
 use mathlib.Core.Bool.{true}
 use lib.ListN.{length}
 use Rattle.plot.specs.Layout.{noLine, linesHold}
 use Rattle.plot.proofs.Lines.{all-held}
-use Rattle.plot.specs.declared.Added.the-variants.{Refused}
 use Rattle.plot.proofs.Entries.{add-long, add-odd, add-zero-plot, add-lines, add-order, add-full, add-here}
 use borrow.Author.Needs.{needs}
 use Rattle.plot.proofs.room.Statement.{statement}
 use Rattle.plot.proofs.room.Tie as tie
 
-bad-record-requires : tie.Need-bad-record-requires
-bad-record-requires c κs = search needs
-
 returns : tie.Need-returns
-returns c = ap Refused (c .bad-record .ensures) ∙ add-long _ _ _ _ (c .before .if1 .taken)
-
-bad-record-requires-2 : tie.Need-bad-record-requires-2
-bad-record-requires-2 c κs = search needs
+returns c = add-long _ _ _ _ (c .if1 .taken)
 
 returns-2 : tie.Need-returns-2
-returns-2 c = ap Refused (c .bad-record2 .ensures) ∙ add-odd _ _ _ _ (c .before .before .if1 .left) (c .before .if2 .taken)
-
-bad-record-requires-3 : tie.Need-bad-record-requires-3
-bad-record-requires-3 c κs = search needs
+returns-2 c = add-odd _ _ _ _ (c .before .if1 .left) (c .if2 .taken)
 
 returns-3 : tie.Need-returns-3
-returns-3 c = ap Refused (c .bad-record3 .ensures) ∙ add-zero-plot _ _ _ _ (c .before .before .before .if1 .left) (c .before .before .if2 .left) (c .before .if3 .taken)
+returns-3 c = add-zero-plot _ _ _ _ (c .before .before .if1 .left) (c .before .if2 .left) (c .if3 .taken)
 
 check-lines-requires : tie.Need-check-lines-requires
 check-lines-requires c κs = search needs
@@ -71,11 +61,8 @@ pub room-spec : {M : Type 1} → statement M
 room-spec =
     tie.close
     (tie.spec
-    bad-record-requires
     returns
-    bad-record-requires-2
     returns-2
-    bad-record-requires-3
     returns-3
     check-lines-requires
     number-requires

@@ -1,12 +1,11 @@
 -- Each check of a record before its lines is a case of `headAt`, from the tests passed so far.
 use native.Mathlib.Omega.{arith}
-use mathlib.Core.Path.{_≡_, sym, ap, _∙_}
+use mathlib.Core.Path.{_≡_, sym, _∙_}
 use borrow.Author.Tests.{not-true, not-false}
 use Rattle.plot.proofs.Cases.{head-mark, head-short, head-lines, head-cut, head-plot, head-record}
 use mathlib.Core.Bool.{true}
 use Rattle.plot.specs.Layout.{mark}
 use Rattle.plot.specs.Grammar.{agree}
-use Rattle.plot.specs.declared.Step.the-variants.{Refused}
 use borrow.Author.Needs.{needs}
 use Rattle.plot.proofs.record.head.Statement.{statement}
 use Rattle.plot.proofs.record.head.Tie as tie
@@ -30,11 +29,8 @@ shared-slice-read-count c = search needs
 cast-count : tie.Need-cast-count
 cast-count c = omega (arith, c .shared-slice-known2 .given 4)
 
-bad-record-requires : tie.Need-bad-record-requires
-bad-record-requires c κs = search needs
-
 returns-3 : tie.Need-returns-3
-returns-3 c = ap Refused (c .bad-record .ensures) ∙ head-lines _ _ (marked (c .before .before .before .before)) (c .before .before .before .if2 .left) (c .before .if3 .taken)
+returns-3 c = head-lines _ _ (marked (c .before .before .before)) (c .before .before .if2 .left) (c .if3 .taken)
 
 mul-if4 : tie.Need-mul-if4
 mul-if4 c = search needs
@@ -63,26 +59,22 @@ mul-plot c = omega (arith, c .shared-slice-known4 .given 3)
 add-plot : tie.Need-add-plot
 add-plot c = omega (arith, c .shared-slice-known4 .given 2, c .shared-slice-known4 .given 3)
 
-bad-record-requires-2 : tie.Need-bad-record-requires-2
-bad-record-requires-2 c κs = search needs
-
 returns-5 : tie.Need-returns-5
 returns-5 c =
-    ap Refused (c .bad-record2 .ensures)
-    ∙ head-plot _ _ (marked (c .before .before .before .before .before .before .before .before)) (c .before .before .before .before .before .before .before .if2 .left)
-    (c .before .before .before .before .before .if3 .left) (c .before .before .before .before .if4 .left) (c .before .if5 .taken)
+    head-plot _ _ (marked (c .before .before .before .before .before .before .before)) (c .before .before .before .before .before .before .if2 .left)
+    (c .before .before .before .before .if3 .left) (c .before .before .before .if4 .left) (c .if5 .taken)
 
-add-t8 : tie.Need-add-t8
-add-t8 c = search needs
+add-lines : tie.Need-add-lines
+add-lines c = search needs
 
-mul-t13 : tie.Need-mul-t13
-mul-t13 c = search needs
+mul-end : tie.Need-mul-end
+mul-end c = search needs
 
-add-t14 : tie.Need-add-t14
-add-t14 c = search needs
+add-end : tie.Need-add-end
+add-end c = search needs
 
-add-t23 : tie.Need-add-t23
-add-t23 c = search needs
+add-end-2 : tie.Need-add-end-2
+add-end-2 c = search needs
 
 returns-6 : tie.Need-returns-6
 returns-6 c =
@@ -98,7 +90,6 @@ head-spec =
     returns-2
     shared-slice-read-count
     cast-count
-    bad-record-requires
     returns-3
     mul-if4
     add-if4
@@ -109,10 +100,9 @@ head-spec =
     cast-plot-2
     mul-plot
     add-plot
-    bad-record-requires-2
     returns-5
-    add-t8
-    mul-t13
-    add-t14
-    add-t23
+    add-lines
+    mul-end
+    add-end
+    add-end-2
     returns-6)
