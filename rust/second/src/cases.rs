@@ -1,11 +1,12 @@
-//! Examples with answers found by hand: document 01's bench sheet, a table for spot mode, and tables of refusals with their places.
+//! Examples with answers found by hand: document 01's bench sheet, a table for spot mode, and tables of refusals with their places; for a bad
+//! tally, `refuse_line` has the place, the figure and the line.
 //! The unit tests hold the library to them, and the test vectors include their inputs.
+
+mod bad_lines;
 
 use crate::block::Profile;
 use crate::plot::record;
-
-/// Number and place of a refusal.
-pub type Place = (u8, usize);
+use crate::refusal::{refuse, refuse_line, Refusal};
 
 /// The codeword and two numbers of a corrected block, or the refusal's number. The numbers are start and length of the run, in spot mode the number
 /// of cells changed and the lowest of them.
@@ -148,17 +149,21 @@ fn without_lines(last: u16) -> Vec<u8> {
     payload
 }
 
-/// Payloads with number and place of the checker's answer, 0 and 0 if accepted.
-pub fn payloads() -> Vec<(Vec<u8>, u8, usize)> {
+/// Payload, and what the checker answers.
+pub type Check = (Vec<u8>, Result<(), Refusal>);
+
+/// Payloads that are accepted, and refused ones.
+pub fn payloads() -> Vec<Check> {
     [
         accepted_payloads(),
         payloads_with_bad_header(),
         payloads_with_bad_plot(),
+        bad_lines::payloads(),
     ]
     .concat()
 }
 
-fn accepted_payloads() -> Vec<(Vec<u8>, u8, usize)> {
+fn accepted_payloads() -> Vec<Check> {
     let accepted = [
         vec![],
         vec![0],
@@ -173,105 +178,118 @@ fn accepted_payloads() -> Vec<(Vec<u8>, u8, usize)> {
         full(),
         without_lines(809),
     ];
-    accepted.map(|payload| (payload, 0, 0)).into()
+    accepted.map(|payload| (payload, Ok(()))).into()
 }
 
-fn payloads_with_bad_header() -> Vec<(Vec<u8>, u8, usize)> {
+fn payloads_with_bad_header() -> Vec<Check> {
     vec![
-        (vec![0; 4049], 2, 0),
-        (vec![1; 4049], 2, 0),
-        (vec![0, 1], 5, 0),
-        (vec![0, 0, 0, 7], 5, 0),
-        (after_plot_7(&[0, 0, 9, 0]), 5, 8),
-        (after_plot_7(&[&[0], &plots(&[8])[..]].concat()), 5, 8),
-        (vec![0x50], 6, 0),
-        (vec![0x4C], 5, 0),
-        (after_plot_7(&[0x50]), 6, 8),
-        (after_plot_7(&[0x51]), 5, 8),
-        (vec![0x50, 0], 5, 0),
-        (vec![0x50, 0x4D, 7, 0, 0], 5, 0),
-        (vec![0x51, 0x4C, 7, 0, 0], 5, 0),
-        (vec![0x4C, 0x50, 7, 0, 0], 5, 0),
-        (vec![0x50, 0x4C], 6, 0),
-        (vec![0x50, 0x4C, 0, 0], 6, 0),
-        (after_plot_7(&[0x50, 0x4C, 8]), 6, 8),
-        (after_plot_7(&[0x50, 0x4D, 8]), 5, 8),
-        (vec![0x50, 0x4C, 0, 0, 41], 7, 0),
-        (vec![0x50, 0x4C, 7, 0, 255], 7, 0),
-        (after_plot_7(&record(8, &lines(41))), 7, 8),
-        (vec![0x50, 0x4C, 0, 0, 1], 6, 0),
-        (vec![0x50, 0x4C, 7, 0, 1, 3, 32], 6, 0),
-        (vec![0x50, 0x4C, 7, 0, 2, 0, 0, 0, 3, 32], 6, 0),
-        (after_plot_7(&[0x50, 0x4C, 6, 0, 40]), 6, 8),
+        (vec![0; 4049], refuse(2, 0)),
+        (vec![1; 4049], refuse(2, 0)),
+        (vec![0, 1], refuse(5, 0)),
+        (vec![0, 0, 0, 7], refuse(5, 0)),
+        (after_plot_7(&[0, 0, 9, 0]), refuse(5, 8)),
+        (after_plot_7(&[&[0], &plots(&[8])[..]].concat()), refuse(5, 8)),
+        (vec![0x50], refuse(6, 0)),
+        (vec![0x4C], refuse(5, 0)),
+        (after_plot_7(&[0x50]), refuse(6, 8)),
+        (after_plot_7(&[0x51]), refuse(5, 8)),
+        (vec![0x50, 0], refuse(5, 0)),
+        (vec![0x50, 0x4D, 7, 0, 0], refuse(5, 0)),
+        (vec![0x51, 0x4C, 7, 0, 0], refuse(5, 0)),
+        (vec![0x4C, 0x50, 7, 0, 0], refuse(5, 0)),
+        (vec![0x50, 0x4C], refuse(6, 0)),
+        (vec![0x50, 0x4C, 0, 0], refuse(6, 0)),
+        (after_plot_7(&[0x50, 0x4C, 8]), refuse(6, 8)),
+        (after_plot_7(&[0x50, 0x4D, 8]), refuse(5, 8)),
+        (vec![0x50, 0x4C, 0, 0, 41], refuse(7, 0)),
+        (vec![0x50, 0x4C, 7, 0, 255], refuse(7, 0)),
+        (after_plot_7(&record(8, &lines(41))), refuse(7, 8)),
+        (vec![0x50, 0x4C, 0, 0, 1], refuse(6, 0)),
+        (vec![0x50, 0x4C, 7, 0, 1, 3, 32], refuse(6, 0)),
+        (vec![0x50, 0x4C, 7, 0, 2, 0, 0, 0, 3, 32], refuse(6, 0)),
+        (after_plot_7(&[0x50, 0x4C, 6, 0, 40]), refuse(6, 8)),
     ]
 }
 
-fn payloads_with_bad_plot() -> Vec<(Vec<u8>, u8, usize)> {
+fn payloads_with_bad_plot() -> Vec<Check> {
     vec![
-        (record(0, &[]), 7, 0),
-        (after_plot_7(&record(0, &LINE)), 7, 8),
-        (record(7, &[0, 32, 2]), 7, 0),
-        (record(7, &[100, 32, 2]), 7, 0),
-        (record(7, &[3, 0, 2]), 7, 0),
-        (record(7, &[3, 201, 2]), 7, 0),
-        (record(7, &[3, 32, 0]), 7, 0),
-        (record(7, &[3, 32, 2, 3, 32, 2]), 7, 0),
-        (record(7, &[3, 32, 2, 3, 31, 2]), 7, 0),
-        (record(7, &[3, 32, 2, 2, 33, 2]), 7, 0),
-        (after_plot_7(&record(8, &[1, 1, 1, 1, 2, 1, 1, 2, 1])), 7, 8),
-        (after_plot_7(&record(6, &[3, 32, 0])), 7, 8),
-        (plots(&[7, 7]), 8, 8),
-        (plots(&[7, 6]), 8, 8),
-        (plots(&[256, 255]), 8, 8),
-        (plots(&[1, 2, 3, 3]), 8, 24),
-        ([plots(&[7, 7]), vec![0, 1]].concat(), 8, 8),
-        ([plots(&[7, 8]), vec![0, 1]].concat(), 5, 16),
-        ([record(7, &[3, 32, 0]), plots(&[6])].concat(), 7, 0),
+        (record(0, &[]), refuse(7, 0)),
+        (after_plot_7(&record(0, &LINE)), refuse(7, 8)),
+        (record(7, &[0, 32, 2]), refuse_line(0, 1, 0)),
+        (record(7, &[100, 32, 2]), refuse_line(0, 1, 0)),
+        (record(7, &[3, 0, 2]), refuse_line(0, 2, 0)),
+        (record(7, &[3, 201, 2]), refuse_line(0, 2, 0)),
+        (record(7, &[3, 32, 0]), refuse_line(0, 3, 0)),
+        (record(7, &[3, 32, 2, 3, 32, 2]), refuse_line(0, 4, 1)),
+        (record(7, &[3, 32, 2, 3, 31, 2]), refuse_line(0, 4, 1)),
+        (record(7, &[3, 32, 2, 2, 33, 2]), refuse_line(0, 4, 1)),
+        (
+            after_plot_7(&record(8, &[1, 1, 1, 1, 2, 1, 1, 2, 1])),
+            refuse_line(8, 4, 2),
+        ),
+        (after_plot_7(&record(6, &[3, 32, 0])), refuse_line(8, 3, 0)),
+        (plots(&[7, 7]), refuse(8, 8)),
+        (plots(&[7, 6]), refuse(8, 8)),
+        (plots(&[256, 255]), refuse(8, 8)),
+        (plots(&[1, 2, 3, 3]), refuse(8, 24)),
+        ([plots(&[7, 7]), vec![0, 1]].concat(), refuse(8, 8)),
+        ([plots(&[7, 8]), vec![0, 1]].concat(), refuse(5, 16)),
+        ([record(7, &[3, 32, 0]), plots(&[6])].concat(), refuse_line(0, 3, 0)),
     ]
 }
 
 /// Payload, plot asked for, and its record's first byte and length or the refusal.
-pub type Ask = (Vec<u8>, u16, Result<(usize, usize), Place>);
+pub type Ask = (Vec<u8>, u16, Result<(usize, usize), Refusal>);
 
 /// Asks for plots that are there, absent, or in a refused payload.
 pub fn asks() -> Vec<Ask> {
+    [plain_asks(), bad_lines::asks()].concat()
+}
+
+fn plain_asks() -> Vec<Ask> {
     let three = [plots(&[7]), record(8, &[]), record(300, &lines(40)), vec![0; 6]].concat();
     vec![
         (three.clone(), 7, Ok((0, 8))),
         (three.clone(), 8, Ok((8, 5))),
         (three.clone(), 300, Ok((13, 125))),
-        (three.clone(), 0, Err((9, 0))),
-        (three.clone(), 9, Err((9, 0))),
-        (three.clone(), 44, Err((9, 0))),
-        (three, 65535, Err((9, 0))),
+        (three.clone(), 0, refuse(9, 0)),
+        (three.clone(), 9, refuse(9, 0)),
+        (three.clone(), 44, refuse(9, 0)),
+        (three, 65535, refuse(9, 0)),
         (record(65535, &[]), 65535, Ok((0, 5))),
         (full(), 35, Ok((3935, 113))),
         (without_lines(809), 809, Ok((4040, 5))),
-        (vec![], 1, Err((9, 0))),
-        (vec![], 0, Err((9, 0))),
-        (vec![0; 20], 1, Err((9, 0))),
-        (vec![0; 4049], 1, Err((2, 0))),
-        (plots(&[7, 7]), 7, Err((8, 8))),
-        (after_plot_7(&[0, 1]), 7, Err((5, 8))),
-        (after_plot_7(&[0x50, 0x4C]), 7, Err((6, 8))),
-        (after_plot_7(&record(8, &[0, 1, 1])), 7, Err((7, 8))),
-        (after_plot_7(&record(8, &[0, 1, 1])), 0, Err((7, 8))),
-        (after_plot_7(&record(8, &[0, 1, 1])), 8, Err((7, 8))),
-        (plots(&[7, 7]), 9, Err((8, 8))),
-        (after_plot_7(&[0, 1]), 9, Err((5, 8))),
-        (after_plot_7(&[0x50, 0x4C]), 9, Err((6, 8))),
-        (after_plot_7(&record(8, &[0, 1, 1])), 9, Err((7, 8))),
-        (full(), 36, Err((9, 0))),
-        ([full(), vec![0]].concat(), 35, Err((2, 0))),
+        (vec![], 1, refuse(9, 0)),
+        (vec![], 0, refuse(9, 0)),
+        (vec![0; 20], 1, refuse(9, 0)),
+        (vec![0; 4049], 1, refuse(2, 0)),
+        (plots(&[7, 7]), 7, refuse(8, 8)),
+        (after_plot_7(&[0, 1]), 7, refuse(5, 8)),
+        (after_plot_7(&[0x50, 0x4C]), 7, refuse(6, 8)),
+        (after_plot_7(&record(8, &[0, 1, 1])), 7, refuse_line(8, 1, 0)),
+        (after_plot_7(&record(8, &[0, 1, 1])), 0, refuse_line(8, 1, 0)),
+        (after_plot_7(&record(8, &[0, 1, 1])), 8, refuse_line(8, 1, 0)),
+        (plots(&[7, 7]), 9, refuse(8, 8)),
+        (after_plot_7(&[0, 1]), 9, refuse(5, 8)),
+        (after_plot_7(&[0x50, 0x4C]), 9, refuse(6, 8)),
+        (after_plot_7(&record(8, &[0, 1, 1])), 9, refuse_line(8, 1, 0)),
+        (full(), 36, refuse(9, 0)),
+        ([full(), vec![0]].concat(), 35, refuse(2, 0)),
     ]
 }
 
 /// Payload, plot and lines to add, and the record's first byte or the refusal.
-pub type Add = (Vec<u8>, u16, Vec<u8>, Result<usize, Place>);
+pub type Add = (Vec<u8>, u16, Vec<u8>, Result<usize, Refusal>);
 
 /// Adds to payloads with room, without room, and refused ones.
 pub fn adds() -> Vec<Add> {
-    [adds_with_room(), adds_with_faults(), adds_without_room()].concat()
+    [
+        adds_with_room(),
+        adds_with_faults(),
+        adds_without_room(),
+        bad_lines::adds(),
+    ]
+    .concat()
 }
 
 fn adds_with_room() -> Vec<Add> {
@@ -289,44 +307,44 @@ fn adds_with_room() -> Vec<Add> {
 
 fn adds_with_faults() -> Vec<Add> {
     let room = after_plot_7(&[0; 40]);
-    let faults: [(u16, Vec<u8>, u8); 13] = [
-        (8, vec![3], 7),
-        (8, vec![3, 32], 7),
-        (8, vec![3, 32, 2, 4], 7),
-        (8, vec![1; 121], 7),
-        (8, lines(41), 7),
-        (8, vec![1; 300], 7),
-        (0, vec![], 7),
-        (0, LINE.into(), 7),
-        (8, vec![0, 1, 1], 7),
-        (8, vec![3, 32, 2, 3, 32, 2], 7),
-        (6, vec![3, 201, 2], 7),
-        (7, LINE.into(), 8),
-        (6, lines(40), 8),
+    let faults = [
+        (8, vec![3], refuse(7, 8)),
+        (8, vec![3, 32], refuse(7, 8)),
+        (8, vec![3, 32, 2, 4], refuse(7, 8)),
+        (8, vec![1; 121], refuse(7, 8)),
+        (8, lines(41), refuse(7, 8)),
+        (8, vec![1; 300], refuse(7, 8)),
+        (0, vec![], refuse(7, 8)),
+        (0, LINE.into(), refuse(7, 8)),
+        (8, vec![0, 1, 1], refuse_line(8, 1, 0)),
+        (8, vec![3, 32, 2, 3, 32, 2], refuse_line(8, 4, 1)),
+        (6, vec![3, 201, 2], refuse_line(8, 2, 0)),
+        (7, LINE.into(), refuse(8, 8)),
+        (6, lines(40), refuse(8, 8)),
     ];
     faults
-        .map(|(plot, lines, number)| (room.clone(), plot, lines, Err((number, 8))))
+        .map(|(plot, lines, expected)| (room.clone(), plot, lines, expected))
         .into()
 }
 
 fn adds_without_room() -> Vec<Add> {
     vec![
-        (vec![0; 7], 7, LINE.into(), Err((10, 0))),
-        (vec![], 7, vec![], Err((10, 0))),
-        (vec![0; 4], 7, vec![], Err((10, 0))),
-        (after_plot_7(&[0; 7]), 8, LINE.into(), Err((10, 8))),
-        (after_plot_7(&[]), 8, vec![], Err((10, 8))),
-        (after_plot_7(&[]), 7, vec![], Err((8, 8))),
-        (after_plot_7(&[]), 8, vec![1], Err((7, 8))),
-        (after_plot_7(&[]), 0, vec![], Err((7, 8))),
-        (vec![0; 124], 9, lines(40), Err((10, 0))),
-        (full(), 36, vec![], Err((10, 4048))),
-        (without_lines(809), 810, vec![], Err((10, 4045))),
-        (vec![0; 4049], 9, vec![1], Err((2, 0))),
-        (vec![0, 0, 1], 9, vec![1], Err((5, 0))),
-        (after_plot_7(&[0x50]), 0, vec![1], Err((6, 8))),
-        (plots(&[7, 8, 8]), 9, vec![], Err((8, 16))),
-        (record(7, &[0, 0, 0]), 8, vec![], Err((7, 0))),
+        (vec![0; 7], 7, LINE.into(), refuse(10, 0)),
+        (vec![], 7, vec![], refuse(10, 0)),
+        (vec![0; 4], 7, vec![], refuse(10, 0)),
+        (after_plot_7(&[0; 7]), 8, LINE.into(), refuse(10, 8)),
+        (after_plot_7(&[]), 8, vec![], refuse(10, 8)),
+        (after_plot_7(&[]), 7, vec![], refuse(8, 8)),
+        (after_plot_7(&[]), 8, vec![1], refuse(7, 8)),
+        (after_plot_7(&[]), 0, vec![], refuse(7, 8)),
+        (vec![0; 124], 9, lines(40), refuse(10, 0)),
+        (full(), 36, vec![], refuse(10, 4048)),
+        (without_lines(809), 810, vec![], refuse(10, 4045)),
+        (vec![0; 4049], 9, vec![1], refuse(2, 0)),
+        (vec![0, 0, 1], 9, vec![1], refuse(5, 0)),
+        (after_plot_7(&[0x50]), 0, vec![1], refuse(6, 8)),
+        (plots(&[7, 8, 8]), 9, vec![], refuse(8, 16)),
+        (record(7, &[0, 0, 0]), 8, vec![], refuse_line(0, 1, 0)),
     ]
 }
 

@@ -1,4 +1,4 @@
-//! The second decoder: a reference implementation of document 01 by brute force, and of document 02's requests by linear algebra.
+//! The second decoder: a reference implementation of document 01 and of document 02's requests, by brute force and, for spot mode, by linear algebra.
 //! It is written from these documents' words alone and shares neither code nor method with the proved
 //! library, so that a difference between the two points at a mistake in one of them.
 

@@ -1,9 +1,11 @@
 //! Plot records in a payload: checking, asking for a plot, adding a plot.
-//! The checks stand in document 01's order, record by record and line by line.
+//! The checks stand in document 01's order, record by record. A tally's faults are all listed, and the first of them decides.
 
 use crate::refusal::{
-    refuse, Refusal, BAD_LINES, BAD_MARK, BUFFER_LENGTH, NO_SPACE, NO_SUCH_PLOT, PLOT_ORDER, TRUNCATED,
+    refuse, refuse_line, Refusal, BAD_LINES, BAD_MARK, BUFFER_LENGTH, CLASS, COUNT, NO_SPACE, NO_SUCH_PLOT, PLOT_ORDER,
+    RISE, SPECIES, TRUNCATED,
 };
+use std::collections::BTreeSet;
 use std::ops::Range;
 
 /// The mark 50 4C (hexadecimal) before each record.
@@ -57,21 +59,28 @@ fn check_header(payload: &[u8], first: usize) -> Result<usize, Refusal> {
     Ok(first + HEADER + 3 * lines)
 }
 
-/// Plot number not 0, then the lines in turn.
+/// Plot number not 0, then the lines.
 fn check_plot(plot: u16, lines: &[u8], first: usize) -> Result<(), Refusal> {
     if plot == 0 {
         return refuse(BAD_LINES, first);
     }
-    let mut before = None;
-    for line in lines.chunks(3) {
-        let (species, class, count) = (line[0], line[1], line[2]);
-        let in_range = (1..=99).contains(&species) && (1..=200).contains(&class) && count >= 1;
-        if !in_range || before >= Some((species, class)) {
-            return refuse(BAD_LINES, first);
-        }
-        before = Some((species, class));
+    match line_faults(lines).first() {
+        Some(&(line, figure)) => refuse_line(first, figure, line),
+        None => Ok(()),
     }
-    Ok(())
+}
+
+/// All that fails in the lines: the index of the line and the figure, in this order.
+fn line_faults(lines: &[u8]) -> BTreeSet<(usize, u8)> {
+    let lines: Vec<&[u8]> = lines.chunks(3).collect();
+    let mut faults = BTreeSet::new();
+    for (value, figure, range) in [(0, SPECIES, 1..=99), (1, CLASS, 1..=200), (2, COUNT, 1..=255)] {
+        let outside = (0..lines.len()).filter(|&i| !range.contains(&lines[i][value]));
+        faults.extend(outside.map(|i| (i, figure)));
+    }
+    let not_above = (1..lines.len()).filter(|&i| lines[i][..2] <= lines[i - 1][..2]);
+    faults.extend(not_above.map(|i| (i, RISE)));
+    faults
 }
 
 /// The plot number is above that of the last record.
@@ -132,14 +141,10 @@ mod tests {
     use super::*;
     use crate::cases;
 
-    fn answer<T>(result: Result<T, Refusal>) -> (u8, usize) {
-        result.map_or_else(|refusal| (refusal.number, refusal.place), |_| (0, 0))
-    }
-
     #[test]
     fn payloads_are_checked_in_order() {
-        for (payload, number, place) in cases::payloads() {
-            assert_eq!(answer(check(&payload)), (number, place), "{payload:?}");
+        for (payload, expected) in cases::payloads() {
+            assert_eq!(check(&payload), expected, "{payload:?}");
         }
     }
 
@@ -153,8 +158,8 @@ mod tests {
                     assert_eq!(ask(&payload, plot), &payload[start..start + length]);
                     assert_eq!(ask(&payload, plot).as_ptr(), payload[start..].as_ptr());
                 }
-                Err((number, place)) => {
-                    assert_eq!(found, refuse(number, place), "{payload:?}");
+                Err(refusal) => {
+                    assert_eq!(found, Err(refusal), "{payload:?}");
                     assert!(ask(&payload, plot).is_empty());
                 }
             }
@@ -174,7 +179,7 @@ mod tests {
                     due[first..first + record.len()].copy_from_slice(&record);
                     assert_eq!(ask(&payload, plot), record);
                 }
-                Err((number, place)) => assert_eq!(result, refuse(number, place), "{due:?} {plot} {lines:?}"),
+                Err(refusal) => assert_eq!(result, Err(refusal), "{due:?} {plot} {lines:?}"),
             }
             assert_eq!(payload, due);
         }

@@ -8,7 +8,8 @@
 //!
 //! In a line of text a buffer is `| length bytes |`. In the stream a word is two bytes, low first, and a
 //! buffer is a word for its length and then its bytes. The stream has no header and ends with its last vector.
-//! A profile is five words: n, r, b, L, D. Number 0 means accepted; else it is the refusal's number.
+//! A profile is five words: n, r, b, L, D. Number 0 means accepted; else it is the refusal's number. Figure and line are document 02's for a
+//! fault in a tally line, and 0 and 0 in every other answer.
 //!
 //! KIND        stream of a vector                              answer
 //! blocks      profile, buffer read block, word length of      number; start or place; length of the run (0 if
@@ -21,11 +22,12 @@
 //! sheets      byte 0, profile, buffer payload, buffer sheet   number; place (0 if accepted); the sheet's bytes at exit
 //!             byte 1, profile, buffer sheet, buffer scratch,  number; blocks changed or place; the scratch's bytes
 //!             buffer payload                                  at exit; the payload's bytes at exit
-//! plots       byte 0, buffer payload                          number; the byte after the last record, or place
+//! plots       byte 0, buffer payload                          number; the byte after the last record, or place; figure;
+//!                                                             line
 //!             byte 1, buffer payload, word plot asked for     number; record's first byte or place; length of the
-//!                                                             part (0 if refused); the part's bytes
-//!             byte 2, buffer payload, word plot to add,       number; record's first byte or place; the payload's
-//!             buffer lines                                    bytes at exit
+//!                                                             part (0 if refused); figure; line; the part's bytes
+//!             byte 2, buffer payload, word plot to add,       number; record's first byte or place; figure; line; the
+//!             buffer lines                                    payload's bytes at exit
 //! spots       byte 0, then as blocks, in spot mode            number; cells changed; the lowest of them; the second
 //!                                                             buffer's bytes at exit
 //!             byte 1, then as sheets after its byte 1, in     as there
@@ -117,6 +119,7 @@ fn main() -> io::Result<()> {
 #[cfg(test)]
 mod tests {
     use super::*;
+    use crate::vector::Field;
     use std::collections::BTreeSet;
 
     /// Each kind has an accepted vector and one for each refusal that its entries can give.
@@ -135,6 +138,28 @@ mod tests {
         for (kind, numbers) in expected {
             let found: BTreeSet<usize> = vectors(kind).unwrap().iter().map(|vector| vector.answer[0]).collect();
             assert_eq!(found, numbers.iter().copied().collect());
+        }
+    }
+
+    /// Each operation on plots has a bad tally for each figure, in the first line and in the last of forty, and one outside a line; the first line has
+    /// no line to rise above.
+    #[test]
+    fn every_figure_occurs() {
+        for (operation, figure_at) in [(0, 2), (1, 3), (2, 2)] {
+            let told = |vector: &Vector| match vector.fields[0] {
+                Field::Byte(number) if number == operation && vector.answer[0] == 7 => {
+                    Some((vector.answer[figure_at], vector.answer[figure_at + 1]))
+                }
+                _ => None,
+            };
+            let found: BTreeSet<(usize, usize)> = vectors("plots").unwrap().iter().filter_map(told).collect();
+            assert!(found.contains(&(0, 0)), "{operation}");
+            for figure in 1..=4 {
+                let first = usize::from(figure == 4);
+                assert!(found.contains(&(figure, first)), "{operation} {figure}");
+                assert!(found.contains(&(figure, 39)), "{operation} {figure}");
+            }
+            assert!(!found.contains(&(4, 0)), "{operation}");
         }
     }
 

@@ -3,33 +3,41 @@
 use crate::vector::{answer, Field, Vector};
 use second::random::Random;
 use second::{cases, plot, Refusal};
-use std::ops::Range;
 
-fn refused(refusal: Refusal) -> [usize; 2] {
-    [refusal.number.into(), refusal.place]
+/// Number, value or place, figure and line of an answer.
+fn numbers(result: Result<usize, Refusal>) -> [usize; 4] {
+    match result {
+        Ok(value) => [0, value, 0, 0],
+        Err(refusal) => [
+            refusal.number.into(),
+            refusal.place,
+            refusal.figure.into(),
+            refusal.line,
+        ],
+    }
 }
 
 fn check(payload: Vec<u8>) -> Vector {
-    let end = |found: Vec<Range<usize>>| [0, found.last().map_or(0, |record| record.end)];
-    let numbers = plot::records(&payload).map_or_else(refused, end);
+    let end = plot::records(&payload).map(|found| found.last().map_or(0, |record| record.end));
     Vector {
         fields: vec![Field::Byte(0), Field::Bytes(payload)],
-        answer: numbers.into(),
+        answer: numbers(end).into(),
     }
 }
 
 fn ask(payload: Vec<u8>, number: u16) -> Vector {
     let part = plot::ask(&payload, number);
-    let [verdict, place] = plot::companion(&payload, number).map_or_else(refused, |record| [0, record.start]);
+    let first = plot::companion(&payload, number).map(|record| record.start);
+    let [verdict, place, figure, line] = numbers(first);
     Vector {
-        answer: answer(&[verdict, place, part.len()], &[part]),
+        answer: answer(&[verdict, place, part.len(), figure, line], &[part]),
         fields: vec![Field::Byte(1), Field::Bytes(payload), Field::Word(number.into())],
     }
 }
 
 fn add(before: Vec<u8>, number: u16, lines: Vec<u8>) -> Vector {
     let mut payload = before.clone();
-    let numbers = plot::add(&mut payload, number, &lines).map_or_else(refused, |first| [0, first]);
+    let numbers = numbers(plot::add(&mut payload, number, &lines));
     let fields = vec![
         Field::Byte(2),
         Field::Bytes(before),
@@ -83,7 +91,7 @@ fn random_vectors(random: &mut Random) -> [Vector; 3] {
 
 pub fn plots() -> Vec<Vector> {
     let mut vectors: Vec<Vector> = Vec::new();
-    vectors.extend(cases::payloads().into_iter().map(|(payload, _, _)| check(payload)));
+    vectors.extend(cases::payloads().into_iter().map(|(payload, _)| check(payload)));
     vectors.extend(
         cases::asks()
             .into_iter()
