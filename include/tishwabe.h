@@ -41,6 +41,15 @@ enum tishwabe_refusal {
     TISHWABE_TOO_MANY_ERRORS = 11 /* spotted: in spot mode, no codeword differs in at most h cells */
 };
 
+/* Document 02's figures: what fails first in the first bad line of a tally, beside TISHWABE_BAD_TALLY. */
+enum tishwabe_figure {
+    TISHWABE_FIGURE_NONE = 0,    /* no fault in a line */
+    TISHWABE_FIGURE_SPECIES = 1, /* species number not 1 to 99 */
+    TISHWABE_FIGURE_CLASS = 2,   /* diameter class not 1 to 200 */
+    TISHWABE_FIGURE_COUNT = 3,   /* tree count 0 */
+    TISHWABE_FIGURE_ORDER = 4    /* species, then class, not above the line before */
+};
+
 /* Longest payload that the functions on plots accept, in bytes. */
 #define TISHWABE_LONGEST_PAYLOAD 4048
 
@@ -101,19 +110,23 @@ size_t tishwabe_read_sheet_spots(size_t n, size_t r, size_t b, size_t limit, siz
                                  uint8_t *payload, size_t payload_length,     /* D * k */
                                  size_t *changed, size_t *place);
 
-/* ---- plot records in a payload of 0 to 4,048 bytes */
+/* ---- plot records in a payload of 0 to 4,048 bytes
+ *
+ * Where refusal 7 is for a value in a line, *figure is one of the figures above and *line the line's index, from 0, in its record or among the
+ * lent lines. Both are 0 where 7 is for more than 40 lines, plot number 0 or the length of the lent lines, and with every other result. */
 
 /* Checks a payload. *place is the byte after the last record, or the refusal's place. Refusals 2 and 5 to 8. */
-size_t tishwabe_check_payload(const uint8_t *payload, size_t payload_length, size_t *place);
+size_t tishwabe_check_payload(const uint8_t *payload, size_t payload_length, size_t *place, size_t *figure, size_t *line);
 
 /* Asks for a plot, after a check of the whole payload: the record, mark to last line, is the *length bytes from payload + *place on. After
  * a refusal *place is its place and *length is 0. Refusals 2 and 5 to 9. */
-size_t tishwabe_ask(const uint8_t *payload, size_t payload_length, uint16_t plot, size_t *place, size_t *length);
+size_t tishwabe_ask(const uint8_t *payload, size_t payload_length, uint16_t plot, size_t *place, size_t *length,
+                    size_t *figure, size_t *line);
 
 /* Adds a plot right after the last record. lines holds species, class and count of each line, 0 to 120 bytes. *place is the record's first
  * byte, or the refusal's place. Refusals 2, 5 to 8 and 10. */
 size_t tishwabe_add(uint8_t *payload, size_t payload_length, uint16_t plot,
-                    const uint8_t *lines, size_t lines_length, size_t *place);
+                    const uint8_t *lines, size_t lines_length, size_t *place, size_t *figure, size_t *line);
 
 /* ---- the text of the plot lister, written from text[0] on as far as text_length goes, with no byte 0 at its end: the number of bytes written.
  * Other bytes of text are left. A text takes at most 60 bytes and 6 more for each byte of the payload. */

@@ -1,5 +1,5 @@
-/* Writes a sheet with two plots, damages it, reads it back, asks for a plot, and lists the sheet as the plot lister does; then the same sheet with
- * mould is read in spot mode. */
+/* Writes a sheet with two plots, a third being refused for the class in one of its lines, damages it, reads it back, asks for a plot, and lists
+ * the sheet as the plot lister does; then the same sheet with mould is read in spot mode. */
 #include <stdio.h>
 #include <string.h>
 
@@ -8,6 +8,17 @@
 /* 20 cells in a block, 8 of them check cells, starting power 1, runs of up to 4 cells, 3 blocks in a sheet. */
 #define PROFILE N, R, 1, 4, D
 enum { N = 20, R = 8, K = N - R, D = 3 };
+
+/* Adds a plot and prints the answer, with the figure and the line where a line is at fault. */
+static void add(uint8_t *payload, uint16_t plot, const uint8_t *lines, size_t lines_length) {
+    size_t place, figure, line;
+    size_t number = tishwabe_add(payload, D * K, plot, lines, lines_length, &place, &figure, &line);
+    printf("plot %d: answer %zu, place %zu", plot, number, place);
+    if (figure != TISHWABE_FIGURE_NONE) {
+        printf(", figure %zu in line %zu", figure, line);
+    }
+    printf("\n");
+}
 
 static void print_record(const uint8_t *record, size_t length) {
     size_t i;
@@ -24,14 +35,14 @@ typedef size_t reader(size_t n, size_t r, size_t b, size_t limit, size_t depth, 
 /* Reads the sheet and prints plot 300. */
 static void read_back(reader *read, const uint8_t *sheet) {
     uint8_t scratch[D * N], payload[D * K] = {0};
-    size_t changed, place, length;
+    size_t changed, place, length, figure, line;
     size_t number = read(PROFILE, sheet, D * N, scratch, D * N, payload, D * K, &changed, &place);
     if (number != TISHWABE_ACCEPTED) {
         printf("refused: %zu, place %zu\n", number, place);
         return;
     }
     printf("read, %zu blocks changed\n", changed);
-    number = tishwabe_ask(payload, D * K, 300, &place, &length);
+    number = tishwabe_ask(payload, D * K, 300, &place, &length, &figure, &line);
     printf("plot 300: answer %zu, place %zu, %zu bytes\n", number, place, length);
     print_record(payload + place, length);
 }
@@ -67,15 +78,14 @@ static void read_with_mould(uint8_t *sheet) {
 int main(void) {
     static const uint8_t pines[] = {3, 32, 2};
     static const uint8_t mixed[] = {1, 10, 255, 3, 31, 4, 3, 32, 1};
+    static const uint8_t class_201[] = {1, 10, 255, 3, 201, 4}; /* classes are 1 to 200 */
     uint8_t payload[D * K] = {0}, sheet[D * N], text[60 + 6 * D * K];
-    size_t place, number;
+    size_t number;
 
-    number = tishwabe_add(payload, D * K, 7, pines, sizeof pines, &place);
-    printf("plot 7: answer %zu, place %zu\n", number, place);
-    number = tishwabe_add(payload, D * K, 300, mixed, sizeof mixed, &place);
-    printf("plot 300: answer %zu, place %zu\n", number, place);
-    number = tishwabe_add(payload, D * K, 300, mixed, sizeof mixed, &place);
-    printf("plot 300 again: answer %zu, place %zu\n", number, place);
+    add(payload, 7, pines, sizeof pines);
+    add(payload, 300, mixed, sizeof mixed);
+    add(payload, 300, mixed, sizeof mixed);
+    add(payload, 301, class_201, sizeof class_201);
     fwrite(text, 1, tishwabe_list(payload, D * K, 0, text, sizeof text), stdout);
 
     number = tishwabe_write_sheet(PROFILE, payload, D * K, sheet, D * N);

@@ -1,15 +1,80 @@
-//! The refusals of documents 01 and 02, with their numbers and places.
+//! The refusals of documents 01 and 02, with their numbers and places, and for a bad tally the line and the value at fault.
 
+use crate::ffi::PayloadAnswer;
 use std::fmt;
 
-/// Why an entry refused. `Display` gives the documents' word for it, its number and its place; for 11 it says what is meant.
+/// What fails first in a tally line: document 02's figures.
+#[derive(Clone, Copy, Debug, PartialEq, Eq, Hash)]
+pub enum Figure {
+    /// 1: the species number is not 1 to 99.
+    Species = 1,
+    /// 2: the diameter class is not 1 to 200.
+    Class = 2,
+    /// 3: the tree count is 0.
+    Count = 3,
+    /// 4: the line does not rise above the line before, by species and then by class.
+    Order = 4,
+}
+
+impl Figure {
+    const ALL: [Figure; 4] = [Figure::Species, Figure::Class, Figure::Count, Figure::Order];
+
+    /// Its number, 1 to 4 in document 02.
+    pub fn number(self) -> u8 {
+        self as u8
+    }
+
+    fn from_number(number: usize) -> Option<Figure> {
+        Figure::ALL
+            .into_iter()
+            .find(|figure| usize::from(figure.number()) == number)
+    }
+}
+
+impl fmt::Display for Figure {
+    fn fmt(&self, f: &mut fmt::Formatter<'_>) -> fmt::Result {
+        f.write_str(match self {
+            Figure::Species => "species number out of range",
+            Figure::Class => "diameter class out of range",
+            Figure::Count => "tree count out of range",
+            Figure::Order => "not above the line before",
+        })
+    }
+}
+
+/// The first bad line of a tally, and what fails first in it.
+#[derive(Clone, Copy, Debug, PartialEq, Eq, Hash)]
+pub struct LineFault {
+    /// The line's index in its record or among the lent lines. It counts from 0, as document 02 does: the record's first line is line 0.
+    pub index: usize,
+    /// What fails first.
+    pub figure: Figure,
+}
+
+impl fmt::Display for LineFault {
+    fn fmt(&self, f: &mut fmt::Formatter<'_>) -> fmt::Result {
+        write!(f, "line {}: {}", self.index, self.figure)
+    }
+}
+
+/// Why an entry refused. `Display` gives the documents' word for it, its number and its place; for 11 it says what is meant, and for a fault in a
+/// tally line which line, counted from 0, and which value.
 ///
 /// ```
-/// use tishwabe::Error;
+/// use tishwabe::{Error, Figure, LineFault};
 /// assert_eq!(Error::BadMark { place: 8 }.to_string(), "bad mark (refusal 5, place 8)");
 /// assert_eq!(Error::Uncorrectable { block: 2 }.to_string(), "torn (refusal 3, place 2)");
 /// let spotted = Error::TooManyErrors { block: 2 }.to_string();
 /// assert_eq!(spotted, "spotted: no codeword differs in at most h cells (refusal 11, place 2)");
+///
+/// let outside_a_line = Error::BadTally { place: 12, line: None };
+/// assert_eq!(outside_a_line.to_string(), "bad tally (refusal 7, place 12)");
+/// let text = |figure| Error::BadTally { place: 12, line: Some(LineFault { index: 3, figure }) }.to_string();
+/// let start = "bad tally: plot record at byte 12, line 3:";
+/// assert_eq!(text(Figure::Species), format!("{start} species number out of range (refusal 7, place 12)"));
+/// assert_eq!(text(Figure::Class), format!("{start} diameter class out of range (refusal 7, place 12)"));
+/// assert_eq!(text(Figure::Count), format!("{start} tree count out of range (refusal 7, place 12)"));
+/// assert_eq!(text(Figure::Order), format!("{start} not above the line before (refusal 7, place 12)"));
 /// ```
 #[derive(Clone, Copy, Debug, PartialEq, Eq, Hash)]
 pub enum Error {
@@ -41,6 +106,8 @@ pub enum Error {
     BadTally {
         /// The byte of the payload.
         place: usize,
+        /// The line at fault, if the fault is in a line.
+        line: Option<LineFault>,
     },
     /// 8, "plot order": plot number not above the one before.
     PlotOrder {
@@ -86,10 +153,36 @@ impl Error {
             Error::Uncorrectable { block } | Error::Ambiguous { block } | Error::TooManyErrors { block } => block,
             Error::BadMark { place }
             | Error::CutShort { place }
-            | Error::BadTally { place }
+            | Error::BadTally { place, .. }
             | Error::PlotOrder { place }
             | Error::Full { place } => place,
         }
+    }
+
+    /// The line at fault, if there is one.
+    fn line_fault(self) -> Option<LineFault> {
+        match self {
+            Error::BadTally { line, .. } => line,
+            _ => None,
+        }
+    }
+
+    /// The number of what fails first in the line at fault, or 0 if no line is.
+    ///
+    /// ```
+    /// use tishwabe::{add, Error, Figure, LineFault};
+    /// let refused = add(&mut [0; 20], 7, &[3, 32, 2, 3, 201, 1]).unwrap_err();
+    /// let line = Some(LineFault { index: 1, figure: Figure::Class });
+    /// assert_eq!(refused, Error::BadTally { place: 0, line });
+    /// assert_eq!((refused.number(), refused.place(), refused.figure(), refused.line()), (7, 0, 2, 1));
+    /// ```
+    pub fn figure(self) -> u8 {
+        self.line_fault().map_or(0, |fault| fault.figure.number())
+    }
+
+    /// The index of the line at fault, counted from 0, or 0 if no line is.
+    pub fn line(self) -> usize {
+        self.line_fault().map_or(0, |fault| fault.index)
     }
 
     /// The documents' word for it.
@@ -112,20 +205,35 @@ impl Error {
 
 impl fmt::Display for Error {
     fn fmt(&self, f: &mut fmt::Formatter<'_>) -> fmt::Result {
-        let meant = match self {
-            Error::TooManyErrors { .. } => ": no codeword differs in at most h cells",
-            _ => "",
-        };
-        let (word, number, place) = (self.called(), self.number(), self.place());
-        write!(f, "{word}{meant} (refusal {number}, place {place})")
+        f.write_str(self.called())?;
+        match self {
+            Error::TooManyErrors { .. } => f.write_str(": no codeword differs in at most h cells")?,
+            Error::BadTally {
+                place,
+                line: Some(fault),
+            } => write!(f, ": plot record at byte {place}, {fault}")?,
+            _ => {}
+        }
+        write!(f, " (refusal {}, place {})", self.number(), self.place())
     }
 }
 
 impl std::error::Error for Error {}
 
-/// The value, unless the number is a refusal's. The library answers no number above 11.
+/// The value, unless the number is a refusal's. No entry on a block or a sheet names a line.
 pub(crate) fn accepted<T>(number: usize, place: usize, value: T) -> Result<T, Error> {
-    Err(match number {
+    let answer = PayloadAnswer {
+        number,
+        place,
+        ..PayloadAnswer::default()
+    };
+    payload_accepted(answer, value)
+}
+
+/// The value, unless the number is a refusal's. The library answers no number above 11.
+pub(crate) fn payload_accepted<T>(answer: PayloadAnswer, value: T) -> Result<T, Error> {
+    let PayloadAnswer { place, line: index, .. } = answer;
+    Err(match answer.number {
         0 => return Ok(value),
         1 => Error::BadProfile,
         2 => Error::WrongLength,
@@ -133,7 +241,10 @@ pub(crate) fn accepted<T>(number: usize, place: usize, value: T) -> Result<T, Er
         4 => Error::Ambiguous { block: place },
         5 => Error::BadMark { place },
         6 => Error::CutShort { place },
-        7 => Error::BadTally { place },
+        7 => {
+            let line = Figure::from_number(answer.figure).map(|figure| LineFault { index, figure });
+            Error::BadTally { place, line }
+        }
         8 => Error::PlotOrder { place },
         9 => Error::NoSuchPlot,
         10 => Error::Full { place },

@@ -106,13 +106,21 @@ mod library {
             changed: &mut usize,
             place: &mut usize,
         ) -> usize;
-        pub fn tishwabe_check_payload(payload: *const u8, payload_length: usize, place: &mut usize) -> usize;
+        pub fn tishwabe_check_payload(
+            payload: *const u8,
+            payload_length: usize,
+            place: &mut usize,
+            figure: &mut usize,
+            line: &mut usize,
+        ) -> usize;
         pub fn tishwabe_ask(
             payload: *const u8,
             payload_length: usize,
             plot: u16,
             place: &mut usize,
             length: &mut usize,
+            figure: &mut usize,
+            line: &mut usize,
         ) -> usize;
         pub fn tishwabe_add(
             payload: *mut u8,
@@ -121,6 +129,8 @@ mod library {
             lines: *const u8,
             lines_length: usize,
             place: &mut usize,
+            figure: &mut usize,
+            line: &mut usize,
         ) -> usize;
         pub fn tishwabe_list(
             payload: *const u8,
@@ -224,26 +234,46 @@ pub fn read_sheet(
     (number, changed, place)
 }
 
-/// The refusal's number, or 0; then its place, or the byte after the last record.
-pub fn check_payload(payload: &[u8]) -> (usize, usize) {
-    let mut place = 0;
-    let number = unsafe { library::tishwabe_check_payload(payload.as_ptr(), payload.len(), &mut place) };
-    (number, place)
+/// What an entry on a payload answers: the refusal's number, or 0; its place, or the entry's own byte of the payload; figure and index of the
+/// line at fault, or 0 and 0.
+#[derive(Clone, Copy, Debug, Default, PartialEq, Eq)]
+pub struct PayloadAnswer {
+    pub number: usize,
+    pub place: usize,
+    pub figure: usize,
+    pub line: usize,
 }
 
-/// The refusal's number, or 0; then its place, or the record's first byte; then the record's length.
-pub fn ask(payload: &[u8], plot: u16) -> (usize, usize, usize) {
-    let (mut place, mut length) = (0, 0);
-    let number = unsafe { library::tishwabe_ask(payload.as_ptr(), payload.len(), plot, &mut place, &mut length) };
-    (number, place, length)
+/// The entry's own byte is the one after the last record.
+pub fn check_payload(payload: &[u8]) -> PayloadAnswer {
+    let mut answer = PayloadAnswer::default();
+    let PayloadAnswer {
+        place, figure, line, ..
+    } = &mut answer;
+    answer.number = unsafe { library::tishwabe_check_payload(payload.as_ptr(), payload.len(), place, figure, line) };
+    answer
 }
 
-/// The refusal's number, or 0; then its place, or the record's first byte.
-pub fn add(payload: &mut [u8], plot: u16, lines: &[u8]) -> (usize, usize) {
-    let mut place = 0;
+/// The entry's own byte is the record's first; then the record's length.
+pub fn ask(payload: &[u8], plot: u16) -> (PayloadAnswer, usize) {
+    let (mut answer, mut length) = (PayloadAnswer::default(), 0);
+    let PayloadAnswer {
+        place, figure, line, ..
+    } = &mut answer;
+    answer.number =
+        unsafe { library::tishwabe_ask(payload.as_ptr(), payload.len(), plot, place, &mut length, figure, line) };
+    (answer, length)
+}
+
+/// The entry's own byte is the record's first.
+pub fn add(payload: &mut [u8], plot: u16, lines: &[u8]) -> PayloadAnswer {
+    let mut answer = PayloadAnswer::default();
+    let PayloadAnswer {
+        place, figure, line, ..
+    } = &mut answer;
     let (to, from) = (payload.as_mut_ptr(), lines.as_ptr());
-    let number = unsafe { library::tishwabe_add(to, payload.len(), plot, from, lines.len(), &mut place) };
-    (number, place)
+    answer.number = unsafe { library::tishwabe_add(to, payload.len(), plot, from, lines.len(), place, figure, line) };
+    answer
 }
 
 /// The number of bytes written.

@@ -2,8 +2,8 @@
 //!
 //! Every function is total: it answers each input of its types, and never panics. The work is done by a library whose functions
 //! are proved to meet document 01, "Film sheets for plot tallies, and their mending", and document 02, "Later changes to the base"; this crate
-//! gives them Rust's types. A refusal is an [`Error`] with the documents' number and place, and leaves every lent buffer as it was but the
-//! sheet reader's scratch.
+//! gives them Rust's types. A refusal is an [`Error`] with the documents' number and place, and for a bad tally the line and the value at fault; it
+//! leaves every lent buffer as it was but the sheet reader's scratch.
 //!
 //! ```
 //! use tishwabe::{add, ask, Error, Profile};
@@ -35,6 +35,6 @@ pub mod ffi;
 mod plot;
 mod profile;
 
-pub use error::Error;
+pub use error::{Error, Figure, LineFault};
 pub use plot::{add, ask, check_payload, list, list_input, list_refusal, locate};
 pub use profile::{Changes, Mode, Profile, Run};

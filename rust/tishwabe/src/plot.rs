@@ -1,19 +1,23 @@
 //! Plot records in a payload, and the lister's text.
 
-use crate::error::{accepted, Error};
+use crate::error::{payload_accepted, Error};
 use crate::ffi;
 use std::ops::Range;
 
 /// Checks a payload of at most 4,048 bytes: the byte after its last record.
 ///
 /// ```
-/// use tishwabe::{check_payload, Error};
+/// use tishwabe::{check_payload, Error, Figure, LineFault};
 /// assert_eq!(check_payload(&[0x50, 0x4C, 7, 0, 1, 3, 32, 2, 0, 0]), Ok(8));
 /// assert_eq!(check_payload(&[0x50, 0x4C, 7, 0, 1, 3, 32]), Err(Error::CutShort { place: 0 }));
+///
+/// // The count of the record's first line is 0.
+/// let line = Some(LineFault { index: 0, figure: Figure::Count });
+/// assert_eq!(check_payload(&[0x50, 0x4C, 7, 0, 1, 3, 32, 0]), Err(Error::BadTally { place: 0, line }));
 /// ```
 pub fn check_payload(payload: &[u8]) -> Result<usize, Error> {
-    let (number, place) = ffi::check_payload(payload);
-    accepted(number, place, place)
+    let answer = ffi::check_payload(payload);
+    payload_accepted(answer, answer.place)
 }
 
 /// Where the record of a plot lies in the payload, mark to last line. The whole payload is checked first.
@@ -25,9 +29,9 @@ pub fn check_payload(payload: &[u8]) -> Result<usize, Error> {
 /// assert_eq!(locate(&payload, 8), Err(Error::NoSuchPlot));
 /// ```
 pub fn locate(payload: &[u8], plot: u16) -> Result<Range<usize>, Error> {
-    let (number, place, length) = ffi::ask(payload, plot);
-    let end = place.saturating_add(length);
-    accepted(number, place, place..end)
+    let (answer, length) = ffi::ask(payload, plot);
+    let end = answer.place.saturating_add(length);
+    payload_accepted(answer, answer.place..end)
 }
 
 /// The record of a plot, mark to last line, as a part of the payload. The whole payload is checked first.
@@ -47,15 +51,21 @@ pub fn ask(payload: &[u8], plot: u16) -> Result<&[u8], Error> {
 /// `payload` as it was.
 ///
 /// ```
-/// use tishwabe::{add, Error};
+/// use tishwabe::{add, Error, Figure, LineFault};
 /// let mut payload = [0; 10];
 /// assert_eq!(add(&mut payload, 7, &[3, 32, 2]), Ok(0));
 /// assert_eq!(payload, [0x50, 0x4C, 7, 0, 1, 3, 32, 2, 0, 0]);
 /// assert_eq!(add(&mut payload, 8, &[3, 32, 2]), Err(Error::Full { place: 8 }));
+///
+/// // The second line has the class of the first.
+/// let line = Some(LineFault { index: 1, figure: Figure::Order });
+/// assert_eq!(add(&mut payload, 8, &[3, 32, 2, 3, 32, 1]), Err(Error::BadTally { place: 8, line }));
+/// // Lent lines that are not three bytes each.
+/// assert_eq!(add(&mut payload, 8, &[3, 32]), Err(Error::BadTally { place: 8, line: None }));
 /// ```
 pub fn add(payload: &mut [u8], plot: u16, lines: &[u8]) -> Result<usize, Error> {
-    let (number, place) = ffi::add(payload, plot, lines);
-    accepted(number, place, place)
+    let answer = ffi::add(payload, plot, lines);
+    payload_accepted(answer, answer.place)
 }
 
 /// The lister's text for the payload of a sheet with this many blocks changed, or for the payload's refusal.
