@@ -133,10 +133,30 @@ pub fn lines(random: &mut Random, most: usize) -> Vec<u8> {
         .collect()
 }
 
-/// Lines of which one in three has a fault: a byte changed, or a length that is not in threes or too long.
+/// One value of one of the lines made bad: its species, class or count out of range, or a pair that is not above the line before. The first
+/// and the last line come up more often than the others.
+pub fn spoil(random: &mut Random, lines: &mut [u8]) {
+    let Some(last) = (lines.len() / 3).checked_sub(1) else {
+        return;
+    };
+    let index = [0, last, random.between(0, last)][random.between(0, 2)];
+    let (before, line) = lines.split_at_mut(3 * index);
+    match (random.between(0, 3), before) {
+        (0, _) => line[0] = [0, random.between(100, 255) as u8][random.between(0, 1)],
+        (1, _) => line[1] = [0, random.between(201, 255) as u8][random.between(0, 1)],
+        (2, _) => line[2] = 0,
+        (_, [.., species, class, _]) => {
+            line[0] = *species;
+            line[1] = class.saturating_sub(random.between(0, 1) as u8);
+        }
+        _ => {}
+    }
+}
+
+/// Lines of which some four in ten have a fault: a byte changed, a length that is not in threes or too long, or bad values, in one line or two.
 pub fn any_lines(random: &mut Random) -> Vec<u8> {
     let mut bytes = lines(random, 6);
-    match random.between(0, 8) {
+    match random.between(0, 10) {
         0 if !bytes.is_empty() => {
             let place = random.between(0, bytes.len() - 1);
             bytes[place] = random.byte();
@@ -147,6 +167,14 @@ pub fn any_lines(random: &mut Random) -> Vec<u8> {
             bytes = random.bytes(length);
         }
         3 => bytes = lines(random, 40),
+        4 => {
+            bytes = lines(random, 40);
+            spoil(random, &mut bytes);
+        }
+        5 => {
+            spoil(random, &mut bytes);
+            spoil(random, &mut bytes);
+        }
         _ => {}
     }
     bytes
@@ -166,10 +194,23 @@ pub fn good_payload(random: &mut Random) -> Vec<u8> {
     payload
 }
 
-/// A payload that is good, changed in one byte or its length, or random.
+/// Bad values in one of the records of a good payload, in one line or two.
+fn spoil_record(random: &mut Random, payload: &mut [u8]) {
+    let records = plot::records(payload).unwrap_or_default();
+    if records.is_empty() {
+        return;
+    }
+    let record = records[random.between(0, records.len() - 1)].clone();
+    let lines = &mut payload[record.start + plot::HEADER..record.end];
+    for _ in 0..random.between(1, 2) {
+        spoil(random, lines);
+    }
+}
+
+/// A payload that is good, changed in one byte, its length or the values of a record, or random.
 pub fn payload(random: &mut Random) -> Vec<u8> {
     let mut payload = good_payload(random);
-    match random.between(0, 9) {
+    match random.between(0, 10) {
         0..=2 if !payload.is_empty() => {
             let place = random.between(0, payload.len() - 1);
             payload[place] = [random.byte(), 0, 0x50, 1][random.between(0, 3)];
@@ -187,6 +228,7 @@ pub fn payload(random: &mut Random) -> Vec<u8> {
             let length = random.between(4044, 4052);
             payload.resize(length, 0);
         }
+        7 => spoil_record(random, &mut payload),
         _ => {}
     }
     payload

@@ -13,18 +13,19 @@ pub type Answer = (usize, usize, usize, usize);
 
 /// A refusal of either.
 pub trait Refused {
-    fn number_and_place(&self) -> (usize, usize);
+    /// Number, place, figure and line.
+    fn numbers(&self) -> [usize; 4];
 }
 
 impl Refused for second::Refusal {
-    fn number_and_place(&self) -> (usize, usize) {
-        (self.number.into(), self.place)
+    fn numbers(&self) -> [usize; 4] {
+        [self.number.into(), self.place, self.figure.into(), self.line]
     }
 }
 
 impl Refused for tishwabe::Error {
-    fn number_and_place(&self) -> (usize, usize) {
-        (self.number().into(), self.place())
+    fn numbers(&self) -> [usize; 4] {
+        [self.number().into(), self.place(), self.figure().into(), self.line()]
     }
 }
 
@@ -36,7 +37,7 @@ pub fn outcome<T>(result: Result<T, impl Refused>, values: impl Fn(T) -> (usize,
             (0, 0, first, second)
         }
         Err(refusal) => {
-            let (number, place) = refusal.number_and_place();
+            let [number, place, ..] = refusal.numbers();
             (number, place, 0, 0)
         }
     }
