@@ -2,7 +2,7 @@
 // rust/second, which shares no code with the library: `vectors library --bytes` and `vectors library --answers`;
 // rust/second/src/bin/vectors/main.rs says what a vector is. It begins with a byte for the operation (0 correct, 1 write, 2 check a block;
 // 3 write, 4 read a sheet; 5 check a payload, 6 ask it for a plot, 7 add a plot to it; 8 correct a block and 9 read a sheet in spot mode); a word is
-// two bytes, the low one first.
+// two bytes, the low one first. Of 5, 6 and 7 figure and line follow the other numbers, 0 and 0 where no line is at fault.
 ghost use Prim.Native.Nat.{_<_, _≤_};
 use libc::STDIN_FILENO;
 use libc::STDOUT_FILENO;
@@ -186,20 +186,29 @@ fn refused(r: plot::Refusal) {
     two(wide(r.number()), r.place());
 }
 
+// Figure and index of the line at fault.
+fn fault(figure: u8, index: usize) {
+    next(wide(figure));
+    next(index);
+}
+
 fn check_payload() {
     let mut space = [0u8; 4096];
     let payload = buffer(&mut space);
-    match plot::check(payload) {
+    let answer = plot::check(payload);
+    match answer {
         plot::Checked::Accepted(c) => two(0, c.at),
         plot::Checked::Refused(r) => refused(r),
     }
+    fault(answer.figure(), answer.index());
 }
 
 fn ask() {
     let mut space = [0u8; 4096];
     let payload = buffer(&mut space);
     let plot = plot_number();
-    match plot::locate(payload, plot) {
+    let answer = plot::locate(payload, plot);
+    match answer {
         Located::At { start, len } => {
             two(0, start);
             next(len);
@@ -209,6 +218,7 @@ fn ask() {
             next(0);
         }
     }
+    fault(answer.figure(), answer.index());
     cells(plot::ask(payload, plot));
 }
 
@@ -218,10 +228,12 @@ fn add() {
     let plot = plot_number();
     let mut second_space = [0u8; 4096];
     let lines = buffer(&mut second_space);
-    match plot::add(payload, plot, lines) {
+    let answer = plot::add(payload, plot, lines);
+    match answer {
         Added::At(start) => two(0, start),
         Added::Refused(r) => refused(r),
     }
+    fault(answer.figure(), answer.index());
     cells(payload);
 }
 
@@ -242,9 +254,9 @@ fn vector(o: u8) {
     end();
 }
 
-// At most 1,000 vectors, so that it ends.
+// At most 2,000 vectors, so that it ends.
 fn main() {
-    let mut left: usize = 1000;
+    let mut left: usize = 2000;
     while 0 < left {
         let o = operation();
         if o == 255 {

@@ -5,7 +5,7 @@ use Rattle.vectors.proofs.main.Statement.{statement}
 use Rattle.vectors.proofs.main.Tie as tie
 
 abbrev Inv-loop : tie.InvT-loop
-Inv-loop left₀ left = left ≤ 1000
+Inv-loop left₀ left = left ≤ 2000
 
 abbrev μ-loop : tie.MeasureT-loop
 μ-loop left₀ left = left
