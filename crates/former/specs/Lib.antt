@@ -1,0 +1,4 @@
+pub mod Former
+pub mod FormerText
+pub mod Unchanged
+pub mod AsBefore
