@@ -9,7 +9,11 @@ use Rattle.sheet.proofs.Refusals.{sheet-refusals}
 use Rattle.sheet.proofs.Promise.{sheet-promise}
 use Rattle.sheet.proofs.LimitFree.{sheet-limit-free}
 use Rattle.plot.proofs.Sheets.{same-after-errors}
-use Rattle.demands.specs.Requests.{Request1, Requests}
+use Rattle.plot_promises.proofs.Lines.{line-check-exactly}
+use Rattle.plot_promises.proofs.FirstBad.{first-line-rises}
+use Rattle.plot_promises.proofs.Figures.{figures}
+use Rattle.former.proofs.AsBefore.{numbers-and-text-as-before}
+use Rattle.demands.specs.Requests.{Request1, Request2, Requests}
 
 request-1 : Request1
 request-1 = record {
@@ -28,5 +32,8 @@ request-1 = record {
   sheet-limit = sheet-limit-free;
 }
 
+request-2 : Request2
+request-2 = record { line = line-check-exactly; first-line = first-line-rises; figures = figures; as-before = numbers-and-text-as-before }
+
 pub requests : Requests
-requests = record { first = request-1 }
+requests = record { first = request-1; second = request-2 }

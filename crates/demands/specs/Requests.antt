@@ -16,7 +16,10 @@ use Rattle.sheet.specs.Numbers.{readingNumber}
 use Rattle.sheet.specs.Buffers.{Payload, Lent}
 use Rattle.sheet.specs.Theorems.{Results, ReadRefusals, SheetLimitFree}
 use Rattle.sheet.specs.Promise.{FewErrors}
+use Rattle.plot.specs.declared.Line.{Line}
 use Rattle.plot.specs.Sheets.{SameAfterErrors}
+use Rattle.plot_promises.specs.Figures.{LineCheckExactly, FirstLineRises, Figures}
+use Rattle.former.specs.AsBefore.{NumbersAndTextAsBefore}
 
 -- Note 1, mould spots
 pub record Request1 : Type 0 where
@@ -44,5 +47,16 @@ pub record Request1 : Type 0 where
   pub limit : LimitFree
   pub sheet-limit : SheetLimitFree
 
+-- Note 2, which value in the line
+pub record Request2 : Type 0 where
+  -- "The check of one line now says what failed first: 1 species, 2 class, 3 count, 4 the rise above the line before."
+  pub line : (before line : Line) → LineCheckExactly before line
+  pub first-line : FirstLineRises
+  -- "Adding a plot and reading a payload pass this on beside number 7, with the line's index from 0. For faults outside a line both are 0."
+  pub figures : Figures
+  -- what the note leaves as it was, on every input: numbers, places, the payload after adding, and the lister's text
+  pub as-before : NumbersAndTextAsBefore
+
 pub record Requests : Type 0 where
   pub first : Request1
+  pub second : Request2
