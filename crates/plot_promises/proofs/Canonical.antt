@@ -20,7 +20,7 @@ use Rattle.plot_promises.specs.Lines.{LinesHold}
 use Rattle.plot.specs.Grammar.{Plots, longest, reading}
 use Rattle.plot.specs.Answers.{lastNumber, seek, located, partOf, asked, added, payloadAfter, payloadWith}
 use Rattle.plot.specs.Numbers.{numberOf, placeOf, locatedNumber, locatedStart, locatedLength, addedStart}
-use Rattle.plot_promises.specs.Canonical.{RecordBytes, Holds, Rising, Contains, PlotsUnique, AllAdded, NotAdded, addThen, addAll, WrittenAsRead, ReadAsWritten, AcceptedForm, FoundAt, AddedIsFound}
+use Rattle.plot_promises.specs.Canonical.{RecordBytes, PlotHolds, Rising, Contains, PlotsUnique, AllAdded, NotAdded, addThen, addAll, WrittenAsRead, ReadAsWritten, AcceptedForm, FoundAt, AddedIsFound}
 use Rattle.plot.proofs.Lists.{low-byte, high-byte, part-front, part-middle}
 use Rattle.plot_promises.proofs.Lines.{lines-hold-iff}
 use Rattle.plot_promises.proofs.Sound.{payloadOf, reading-sound}
@@ -49,24 +49,24 @@ rising-before : (last : ℕ) (ps qs : List Plot) → Rising last (ps ++ qs) → 
 rising-before last [] qs r = tt
 rising-before last (p ∷ ps) qs r = (r .0, r .1, rising-before (p .number) ps qs (r .2))
 
-pub rising-at : (last : ℕ) (ps : List Plot) (p : Plot) (qs : List Plot) → Rising last (ps ++ p ∷ qs) → Holds p × (lastNumber last ps < p .number)
+pub rising-at : (last : ℕ) (ps : List Plot) (p : Plot) (qs : List Plot) → Rising last (ps ++ p ∷ qs) → PlotHolds p × (lastNumber last ps < p .number)
 rising-at last [] p qs r = (r .0, r .1)
 rising-at last (x ∷ ps) p qs r = rising-at (x .number) ps p qs (r .2)
 
-rising-snoc : (last : ℕ) (ps : List Plot) (p : Plot) → Rising last ps → Holds p → lastNumber last ps < p .number → Rising last (ps ++ p ∷ [])
+rising-snoc : (last : ℕ) (ps : List Plot) (p : Plot) → Rising last ps → PlotHolds p → lastNumber last ps < p .number → Rising last (ps ++ p ∷ [])
 rising-snoc last [] p r h l = (h, l, tt)
 rising-snoc last (x ∷ ps) p r h l = (r .0, r .1, rising-snoc (x .number) ps p (r .2) h l)
 
 -- what the checks of an added plot say is what holds of a plot
-pub holds-of : (p : Plot) → length (p .lines) ≤ 120 → length (p .lines) % 3 ≡ 0 → (p .number ≡ 0 → ⊥) → LinesHold (linesOf p) (p .lines) → Holds p
+pub holds-of : (p : Plot) → length (p .lines) ≤ 120 → length (p .lines) % 3 ≡ 0 → (p .number ≡ 0 → ⊥) → LinesHold (linesOf p) (p .lines) → PlotHolds p
 holds-of p s t n h =
     let d : linesOf p * 3 + length (p .lines) % 3 ≡ length (p .lines) = div-add-mod' (length (p .lines)) 3 in
     record { threes = omega arith; few = omega arith; some = n; hold = h }
 
-thirds-of : (p : Plot) → Holds p → length (p .lines) % 3 ≡ 0
+thirds-of : (p : Plot) → PlotHolds p → length (p .lines) % 3 ≡ 0
 thirds-of p h = ap (λ (n : ℕ). n % 3) (sym (h .threes)) ∙ mul-mod-left (linesOf p) 3
 
-short-of : (p : Plot) → Holds p → length (p .lines) ≤ 120
+short-of : (p : Plot) → PlotHolds p → length (p .lines) ≤ 120
 short-of p h =
     let t : linesOf p * 3 ≡ length (p .lines) = h .threes in
     let f : linesOf p ≤ 40 = h .few in

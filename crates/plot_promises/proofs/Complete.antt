@@ -14,7 +14,7 @@ use Rattle.plot.specs.declared.Step.the-variants.{Record, End}
 use Rattle.plot.specs.Layout.{Plot, mark, headerLength, plotOf, recordLength, noLine, linesHold, linesOf, recordOf, bytesOf}
 use Rattle.plot.specs.Grammar.{allZero, agree, headAt, stepAt, Parsed, Plots, Stopped, onto, readFrom, longest, reading}
 use Rattle.plot.specs.Answers.{lastNumber}
-use Rattle.plot_promises.specs.Canonical.{Holds, Rising}
+use Rattle.plot_promises.specs.Canonical.{PlotHolds, Rising}
 use Rattle.plot.proofs.Cases.{head-record, read-end, read-on, reading-short}
 use Rattle.plot_promises.proofs.Lines.{lines-hold-iff}
 use Rattle.plot_promises.proofs.Sound.{lines-prefix, payloadOf}
@@ -30,7 +30,7 @@ step-zeros at zero = refl
 step-zeros at (suc n) = rw (all-zeros n)
 
 -- a record as written, with anything after it
-module _ (at : ℕ) (p : Plot) (h : Holds p) (rest : List ℕ) where
+module _ (at : ℕ) (p : Plot) (h : PlotHolds p) (rest : List ℕ) where
   abbrev after : Cursor
   after = record { at = at + recordLength (linesOf p); last = p .number }
 

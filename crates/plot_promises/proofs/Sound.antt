@@ -20,7 +20,7 @@ use Rattle.plot.specs.Grammar.{stepAt, Parsed, Plots, Stopped, onto, readFrom, 
 use Rattle.plot_promises.specs.Checks.{Zeros, RecordFault}
 use Rattle.plot.specs.Answers.{lastNumber}
 use Rattle.plot.specs.Numbers.{numberOf, placeOf}
-use Rattle.plot_promises.specs.Canonical.{Holds, Rising}
+use Rattle.plot_promises.specs.Canonical.{PlotHolds, Rising}
 use Rattle.plot_promises.specs.Figures.{BadLineHere}
 use Rattle.plot.proofs.Lines.{hold-none, hold-first}
 use Rattle.plot.proofs.Lists.{front-five, low-byte, high-byte}
@@ -58,7 +58,7 @@ module _ (at last : ℕ) (s : List ℕ) (from count : ℕ) (next : Cursor) (e : 
   lined : length (take (count * 3) (drop headerLength s)) ≡ count * 3
   lined = lines-here at last s from count next e
 
-  holds-here : linesHold noLine count (drop headerLength s) ≡ true → Holds (here at last s from count next e)
+  holds-here : linesHold noLine count (drop headerLength s) ≡ true → PlotHolds (here at last s from count next e)
   holds-here g =
       let n : length (drop headerLength s) ≡ length s - headerLength = length-drop headerLength s in
       let lines = take (count * 3) (drop headerLength s) in

@@ -24,7 +24,7 @@ pub record RecordBytes : Type 0 where
 
 -- a plot that a record can hold: "three bytes a line", "0 to 40" lines, a number that is not 0, lines that hold. That the number has two bytes is said where the
 -- payload is of bytes.
-pub record Holds (p : Plot) : Type 0 where
+pub record PlotHolds (p : Plot) : Type 0 where
   pub threes : linesOf p * 3 ≡ length (p .lines)
   pub few : linesOf p ≤ 40
   pub some : p .number ≢ 0
@@ -33,7 +33,7 @@ pub record Holds (p : Plot) : Type 0 where
 -- "Plot numbers rise strictly."
 abbrev pub Rising : ℕ → List Plot → Type 0
 Rising last [] = Unit
-Rising last (p ∷ ps) = Holds p × (last < p .number) × Rising (p .number) ps
+Rising last (p ∷ ps) = PlotHolds p × (last < p .number) × Rising (p .number) ps
 
 -- "A payload of 0 to 4,048 bytes holds records, then zero bytes to its end.": s holds the records of these plots
 pub record Contains (s : List ℕ) (plots : List Plot) : Type 0 where
