@@ -43,10 +43,13 @@ pub fn outcome<T>(result: Result<T, impl Refused>, values: impl Fn(T) -> (usize,
     }
 }
 
-/// The wrapper's profile with these numbers, which both refuse or both accept.
+/// The wrapper's profile with these numbers, which both refuse or both accept. k and h are handed out where they are refused too.
 pub fn profile(p: &second::Profile) -> Option<tishwabe::Profile> {
     let result = tishwabe::Profile::new(p.n, p.r, p.b, p.limit, p.depth);
-    assert_eq!(outcome(result, |_| (0, 0)), outcome(p.check(), |()| (0, 0)), "{p:?}");
+    let answer = outcome(p.check(), |()| (0, 0));
+    assert_eq!(outcome(result, |_| (0, 0)), answer, "{p:?}");
+    let due = (answer.0, p.n.saturating_sub(p.r), p.r / 2);
+    assert_eq!(tishwabe::ffi::profile(numbers(p)), due, "{p:?}");
     let made = result.ok()?;
     assert_eq!((made.k(), made.h()), (p.k(), p.h()), "{p:?}");
     Some(made)

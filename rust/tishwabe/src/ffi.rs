@@ -7,6 +7,9 @@ use crate::profile::Mode;
 /// n, r, b, L and D of document 01, in any range.
 pub type Numbers = [usize; 5];
 
+/// What a number to be handed out is before the call. The library writes each of them on every call, be it 0; so the tests notice one that it leaves.
+const UNWRITTEN: usize = usize::MAX;
+
 mod library {
     extern "C" {
         pub fn tishwabe_profile(
@@ -146,7 +149,7 @@ mod library {
 
 /// The refusal's number, or 0; then k and h.
 pub fn profile([n, r, b, limit, depth]: Numbers) -> (usize, usize, usize) {
-    let (mut k, mut h) = (0, 0);
+    let (mut k, mut h) = (UNWRITTEN, UNWRITTEN);
     let number = unsafe { library::tishwabe_profile(n, r, b, limit, depth, &mut k, &mut h) };
     (number, k, h)
 }
@@ -159,7 +162,7 @@ pub fn write_block([n, r, b, limit, depth]: Numbers, message: &[u8], cells: &mut
 
 /// The refusal's number, or 0; then 1 if the block is clean.
 pub fn check_block([n, r, b, limit, depth]: Numbers, read: &[u8]) -> (usize, usize) {
-    let mut clean = 0;
+    let mut clean = UNWRITTEN;
     let number = unsafe { library::tishwabe_check_block(n, r, b, limit, depth, read.as_ptr(), read.len(), &mut clean) };
     (number, clean)
 }
@@ -175,7 +178,7 @@ pub fn correct_block(
         Mode::Burst => library::tishwabe_correct_block,
         Mode::Spots => library::tishwabe_correct_spots,
     };
-    let (mut first, mut second) = (0, 0);
+    let (mut first, mut second) = (UNWRITTEN, UNWRITTEN);
     let (from, to) = (read.as_ptr(), out.as_mut_ptr());
     let number = unsafe {
         corrector(
@@ -213,7 +216,7 @@ pub fn read_sheet(
         Mode::Burst => library::tishwabe_read_sheet,
         Mode::Spots => library::tishwabe_read_sheet_spots,
     };
-    let (mut changed, mut place) = (0, 0);
+    let (mut changed, mut place) = (UNWRITTEN, UNWRITTEN);
     let number = unsafe {
         reader(
             n,
@@ -244,9 +247,18 @@ pub struct PayloadAnswer {
     pub line: usize,
 }
 
+impl PayloadAnswer {
+    const UNWRITTEN: PayloadAnswer = PayloadAnswer {
+        number: UNWRITTEN,
+        place: UNWRITTEN,
+        figure: UNWRITTEN,
+        line: UNWRITTEN,
+    };
+}
+
 /// The entry's own byte is the one after the last record.
 pub fn check_payload(payload: &[u8]) -> PayloadAnswer {
-    let mut answer = PayloadAnswer::default();
+    let mut answer = PayloadAnswer::UNWRITTEN;
     let PayloadAnswer {
         place, figure, line, ..
     } = &mut answer;
@@ -256,7 +268,7 @@ pub fn check_payload(payload: &[u8]) -> PayloadAnswer {
 
 /// The entry's own byte is the record's first; then the record's length.
 pub fn ask(payload: &[u8], plot: u16) -> (PayloadAnswer, usize) {
-    let (mut answer, mut length) = (PayloadAnswer::default(), 0);
+    let (mut answer, mut length) = (PayloadAnswer::UNWRITTEN, UNWRITTEN);
     let PayloadAnswer {
         place, figure, line, ..
     } = &mut answer;
@@ -267,7 +279,7 @@ pub fn ask(payload: &[u8], plot: u16) -> (PayloadAnswer, usize) {
 
 /// The entry's own byte is the record's first.
 pub fn add(payload: &mut [u8], plot: u16, lines: &[u8]) -> PayloadAnswer {
-    let mut answer = PayloadAnswer::default();
+    let mut answer = PayloadAnswer::UNWRITTEN;
     let PayloadAnswer {
         place, figure, line, ..
     } = &mut answer;
