@@ -133,8 +133,8 @@ pub fn lines(random: &mut Random, most: usize) -> Vec<u8> {
         .collect()
 }
 
-/// One value of one of the lines made bad: its species, class or count out of range, or a pair that is not above the line before. The first
-/// and the last line come up more often than the others.
+/// One of the lines made bad: its species, class or count out of range, or a pair that is not above the line before, where there is one. The first and
+/// the last line come up more often than the others.
 pub fn spoil(random: &mut Random, lines: &mut [u8]) {
     let Some(last) = (lines.len() / 3).checked_sub(1) else {
         return;

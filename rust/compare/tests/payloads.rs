@@ -60,6 +60,8 @@ fn count(tally: &mut Tally, entry: &str, answer: Answer, lines: usize) {
         _ => 2,
     };
     tally.count(format!("{entry}: {}, {}", FIGURES[figure], POSITIONS[position]));
+    let record = if answer.place == 0 { "first" } else { "later" };
+    tally.count(format!("{entry}: {}, {record} record", FIGURES[figure]));
 }
 
 fn one_payload(random: &mut Random, tally: &mut Tally) {
@@ -83,17 +85,17 @@ fn one_payload(random: &mut Random, tally: &mut Tally) {
     }
 }
 
-/// Every figure came up often in the first line, in a middle one and in the last; but the first line has none before it.
+/// Every figure came up often in the first line, in a middle one and in the last, and in the first record and in later ones; but the first line has
+/// none before it.
 fn figures_came_up(tally: &Tally, entry: &str) {
-    for (figure, position) in FIGURES.iter().flat_map(|figure| POSITIONS.map(|p| (figure, p))) {
-        let times = tally.of(&format!("{entry}: {figure}, {position}"));
-        let never = (*figure, position) == ("order", "first");
-        assert!(
-            if never { times == 0 } else { times > 20 },
-            "{entry}: {figure}, {position}"
-        );
+    for figure in FIGURES {
+        for position in [&POSITIONS[..], &["first record", "later record"]].concat() {
+            let kind = format!("{entry}: {figure}, {position}");
+            let (times, never) = (tally.of(&kind), (figure, position) == ("order", "first"));
+            assert!(if never { times == 0 } else { times > 50 }, "{kind}");
+        }
     }
-    assert!(tally.of(&format!("{entry}: outside a line")) > 20, "{entry}");
+    assert!(tally.of(&format!("{entry}: outside a line")) > 50, "{entry}");
 }
 
 #[test]
