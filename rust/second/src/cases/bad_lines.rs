@@ -96,19 +96,24 @@ pub(super) fn payloads() -> Vec<Check> {
     rows
 }
 
-/// Each of the bad tallies in a payload that is asked for another plot, and two of them for the plot itself and for an absent one.
+/// Each of the bad tallies in the first record, whose plot is asked for, and in a later one, where another plot is; then two for an absent plot and for
+/// plot 0, and faults outside a line.
 pub(super) fn asks() -> Vec<Ask> {
+    let alone = |(lines, figure, line): BadLines| (record(7, &lines), 7, refuse_line(0, figure, line));
     let later = |(lines, figure, line): BadLines| {
         let payload = after_plot_7(&record(8, &lines));
         (payload, 7, refuse_line(8, figure, line))
     };
-    let mut rows: Vec<Ask> = bad_lines().into_iter().map(later).collect();
+    let mut rows: Vec<Ask> = bad_lines().into_iter().map(alone).collect();
+    rows.extend(bad_lines().into_iter().map(later));
     let first = record(7, &[3, 32, 2, 3, 0, 1]);
     rows.extend([
-        (first.clone(), 7, refuse_line(0, 2, 1)),
-        (first, 9, refuse_line(0, 2, 1)),
+        (first.clone(), 9, refuse_line(0, 2, 1)),
+        (first, 0, refuse_line(0, 2, 1)),
         (record(7, &[0; 41 * 3]), 7, refuse(7, 0)),
         (record(0, &[0; 3]), 0, refuse(7, 0)),
+        ([plots(&[7, 7]), record(8, &[0; 3])].concat(), 8, refuse(8, 8)),
+        ([record(7, &[0; 3]), vec![0; 4041]].concat(), 7, refuse(2, 0)),
     ]);
     rows
 }
@@ -130,6 +135,20 @@ pub(super) fn adds() -> Vec<Add> {
         (plots(&[7]), 0, vec![0; 3], refuse(7, 8)),
         (record(7, &[3, 32, 2, 3, 0, 1]), 8, vec![3, 32, 0], refuse_line(0, 2, 1)),
         (record(7, &[3, 32, 0]), 8, vec![0; 4], refuse_line(0, 3, 0)),
+        (
+            after_plot_7(&record(8, &[1, 1, 1, 1, 2, 1, 1, 2, 1])),
+            9,
+            vec![0, 32, 2],
+            refuse_line(8, 4, 2),
+        ),
+        (record(7, &[0; 41 * 3]), 8, vec![0; 3], refuse(7, 0)),
+        (record(0, &[0; 3]), 8, vec![0; 3], refuse(7, 0)),
+        (
+            [record(7, &[0; 3]), vec![0; 4041]].concat(),
+            8,
+            vec![0; 3],
+            refuse(2, 0),
+        ),
         (plots(&[7, 7]), 8, vec![0; 3], refuse(8, 8)),
         (after_plot_7(&[0, 1]), 8, vec![0; 3], refuse(5, 8)),
         (after_plot_7(&[0x50, 0x4C]), 8, vec![0; 3], refuse(6, 8)),

@@ -141,8 +141,8 @@ mod tests {
         }
     }
 
-    /// Each operation on plots has a bad tally for each figure, in the first line and in the last of forty, and one outside a line; the first line has
-    /// no line to rise above.
+    /// Each operation on plots has a bad tally for each figure, in the first line, in a middle one and in the last of forty, and one outside a line; the
+    /// first line has no line to rise above.
     #[test]
     fn every_figure_occurs() {
         for (operation, figure_at) in [(0, 2), (1, 3), (2, 2)] {
@@ -156,8 +156,9 @@ mod tests {
             assert!(found.contains(&(0, 0)), "{operation}");
             for figure in 1..=4 {
                 let first = usize::from(figure == 4);
-                assert!(found.contains(&(figure, first)), "{operation} {figure}");
-                assert!(found.contains(&(figure, 39)), "{operation} {figure}");
+                for line in [first, 19, 39] {
+                    assert!(found.contains(&(figure, line)), "{operation} {figure} {line}");
+                }
             }
             assert!(!found.contains(&(4, 0)), "{operation}");
         }
