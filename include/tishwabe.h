@@ -112,8 +112,9 @@ size_t tishwabe_read_sheet_spots(size_t n, size_t r, size_t b, size_t limit, siz
 
 /* ---- plot records in a payload of 0 to 4,048 bytes
  *
- * Where refusal 7 is for a value in a line, *figure is one of the figures above and *line the line's index, from 0, in its record or among the
- * lent lines. Both are 0 where 7 is for more than 40 lines, plot number 0 or the length of the lent lines, and with every other result. */
+ * Where refusal 7 is for a fault in a line, *figure is one of the figures above and *line the line's index in its record or among the lent lines;
+ * the first line is 0. Both are 0 where 7 is for more than 40 lines, plot number 0 or the length of the lent lines, and with every other result, so
+ * *line alone does not tell whether a line is at fault. */
 
 /* Checks a payload. *place is the byte after the last record, or the refusal's place. Refusals 2 and 5 to 8. */
 size_t tishwabe_check_payload(const uint8_t *payload, size_t payload_length, size_t *place, size_t *figure, size_t *line);

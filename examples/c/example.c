@@ -1,5 +1,6 @@
-/* Writes a sheet with two plots, a third being refused for the class in one of its lines, damages it, reads it back, asks for a plot, and lists
- * the sheet as the plot lister does; then the same sheet with mould is read in spot mode. */
+/* Writes a sheet with two plots, a third being refused for the class in one of its lines; shows what the check says of tallies with one bad value;
+ * damages the sheet, reads it back, asks for a plot, and lists the sheet as the plot lister does; then the same sheet with mould is read in spot
+ * mode. */
 #include <stdio.h>
 #include <string.h>
 
@@ -9,15 +10,40 @@
 #define PROFILE N, R, 1, 4, D
 enum { N = 20, R = 8, K = N - R, D = 3 };
 
-/* Adds a plot and prints the answer, with the figure and the line where a line is at fault. */
+/* Ends a printed answer: where a line is at fault, with the line and what fails first in it. */
+static void print_fault(size_t figure, size_t line) {
+    static const char *const figures[] = {
+        [TISHWABE_FIGURE_SPECIES] = "species",
+        [TISHWABE_FIGURE_CLASS] = "class",
+        [TISHWABE_FIGURE_COUNT] = "count",
+        [TISHWABE_FIGURE_ORDER] = "not above the line before",
+    };
+    if (figure != TISHWABE_FIGURE_NONE) {
+        printf(", line %zu (the first is 0): %s", line, figures[figure]);
+    }
+    printf("\n");
+}
+
+/* Adds a plot and prints the answer. */
 static void add(uint8_t *payload, uint16_t plot, const uint8_t *lines, size_t lines_length) {
     size_t place, figure, line;
     size_t number = tishwabe_add(payload, D * K, plot, lines, lines_length, &place, &figure, &line);
     printf("plot %d: answer %zu, place %zu", plot, number, place);
-    if (figure != TISHWABE_FIGURE_NONE) {
-        printf(", figure %zu in line %zu", figure, line);
-    }
-    printf("\n");
+    print_fault(figure, line);
+}
+
+/* Checks the payload with one byte changed, asks it for plot 7, and prints both answers. */
+static void check_with(const uint8_t *payload, size_t byte, uint8_t value) {
+    uint8_t changed[D * K];
+    size_t number, place, length, figure, line;
+    memcpy(changed, payload, D * K);
+    changed[byte] = value;
+    number = tishwabe_check_payload(changed, D * K, &place, &figure, &line);
+    printf("byte %zu is %d: answer %zu, place %zu", byte, value, number, place);
+    print_fault(figure, line);
+    number = tishwabe_ask(changed, D * K, 7, &place, &length, &figure, &line);
+    printf("  plot 7: answer %zu, place %zu, %zu bytes", number, place, length);
+    print_fault(figure, line);
 }
 
 static void print_record(const uint8_t *record, size_t length) {
@@ -87,6 +113,14 @@ int main(void) {
     add(payload, 300, mixed, sizeof mixed);
     add(payload, 301, class_201, sizeof class_201);
     fwrite(text, 1, tishwabe_list(payload, D * K, 0, text, sizeof text), stdout);
+
+    /* the lines of plot 300 begin at byte 13 */
+    check_with(payload, 13, 1);   /* as it is */
+    check_with(payload, 16, 100); /* species are 1 to 99 */
+    check_with(payload, 17, 201);
+    check_with(payload, 21, 0);  /* no trees */
+    check_with(payload, 20, 31); /* the class of the line before */
+    check_with(payload, 12, 41); /* at most 40 lines */
 
     number = tishwabe_write_sheet(PROFILE, payload, D * K, sheet, D * N);
     printf("written: answer %zu\n", number);
