@@ -24,6 +24,7 @@ impl Figure {
         self as u8
     }
 
+    /// None for 0, where no line is at fault. The library answers no number above 4.
     fn from_number(number: usize) -> Option<Figure> {
         Figure::ALL
             .into_iter()
@@ -58,7 +59,7 @@ impl fmt::Display for LineFault {
 }
 
 /// Why an entry refused. `Display` gives the documents' word for it, its number and its place; for 11 it says what is meant, and for a fault in a
-/// tally line which line, counted from 0, and which value.
+/// tally line which line, that the first line is 0, and which value.
 ///
 /// ```
 /// use tishwabe::{Error, Figure, LineFault};
@@ -70,11 +71,11 @@ impl fmt::Display for LineFault {
 /// let outside_a_line = Error::BadTally { place: 12, line: None };
 /// assert_eq!(outside_a_line.to_string(), "bad tally (refusal 7, place 12)");
 /// let text = |figure| Error::BadTally { place: 12, line: Some(LineFault { index: 3, figure }) }.to_string();
-/// let start = "bad tally: plot record at byte 12, line 3:";
-/// assert_eq!(text(Figure::Species), format!("{start} species number out of range (refusal 7, place 12)"));
-/// assert_eq!(text(Figure::Class), format!("{start} diameter class out of range (refusal 7, place 12)"));
-/// assert_eq!(text(Figure::Count), format!("{start} tree count out of range (refusal 7, place 12)"));
-/// assert_eq!(text(Figure::Order), format!("{start} not above the line before (refusal 7, place 12)"));
+/// let (start, end) = ("bad tally: plot record at byte 12, line 3:", "(refusal 7, place 12, lines counted from 0)");
+/// assert_eq!(text(Figure::Species), format!("{start} species number out of range {end}"));
+/// assert_eq!(text(Figure::Class), format!("{start} diameter class out of range {end}"));
+/// assert_eq!(text(Figure::Count), format!("{start} tree count out of range {end}"));
+/// assert_eq!(text(Figure::Order), format!("{start} not above the line before {end}"));
 /// ```
 #[derive(Clone, Copy, Debug, PartialEq, Eq, Hash)]
 pub enum Error {
@@ -214,7 +215,8 @@ impl fmt::Display for Error {
             } => write!(f, ": plot record at byte {place}, {fault}")?,
             _ => {}
         }
-        write!(f, " (refusal {}, place {})", self.number(), self.place())
+        write!(f, " (refusal {}, place {}", self.number(), self.place())?;
+        f.write_str(self.line_fault().map_or(")", |_| ", lines counted from 0)"))
     }
 }
 
