@@ -1,7 +1,8 @@
-// Document 01's example of a plot record and of a full payload, and one payload for each refusal, with the texts that the lister prints for them.
-// What is printed is held to the file stdout.
+// Document 01's example of a plot record and of a full payload, and one payload for each refusal, with the texts that the lister prints for them, and
+// the figure and the line of each refusal. What is printed is held to the file stdout.
 use libc::STDOUT_FILENO;
 use plot::Added;
+use plot::Checked;
 use plot::Located;
 use plot::Refusal;
 
@@ -12,10 +13,34 @@ fn list(payload: &[u8]) {
     io::write_all(STDOUT_FILENO, &out[..n]);
 }
 
+fn digit(n: usize) {
+    let out = [(48 + n % 10) as u8];
+    io::write_all(STDOUT_FILENO, &out);
+}
+
+// Document 02's two numbers beside a refusal, each one digit here.
+fn figure(r: Refusal) {
+    io::write_all(STDOUT_FILENO, b"figure ");
+    digit(r.figure() as usize);
+    io::write_all(STDOUT_FILENO, b", line ");
+    digit(r.index());
+    io::write_all(STDOUT_FILENO, b"\n");
+}
+
 fn refuse(r: Refusal) {
     let mut out = [0u8; 64];
     let n = listing_text::write_refusal(r.number(), r.place(), &mut out);
     io::write_all(STDOUT_FILENO, &out[..n]);
+    figure(r);
+}
+
+// The text for a payload, and why it is refused.
+fn check(payload: &[u8]) {
+    list(payload);
+    match plot::check(payload) {
+        Checked::Accepted(_) => {}
+        Checked::Refused(r) => figure(r),
+    }
 }
 
 // A plot is added, and the payload listed; or the refusal.
@@ -50,16 +75,19 @@ fn examples() {
 }
 
 fn refusals() {
-    list(b"\x50");
-    list(b"\x51");
-    list(b"\x50\x4d");
-    list(b"\x50\x4c\x07\x00\x00\x00\x00\x01");
-    list(b"\x50\x4c\x07\x00");
-    list(b"\x50\x4c\x07\x00\x29");
-    list(b"\x50\x4c\x07\x00\x01\x03\xc9\x02");
-    list(b"\x50\x4c\x07\x00\x00\x50\x4c\x07\x00\x00");
+    check(b"\x50");
+    check(b"\x51");
+    check(b"\x50\x4d");
+    check(b"\x50\x4c\x07\x00\x00\x00\x00\x01");
+    check(b"\x50\x4c\x07\x00");
+    check(b"\x50\x4c\x07\x00\x29");
+    check(b"\x50\x4c\x07\x00\x01\x03\xc9\x02");
+    check(b"\x50\x4c\x07\x00\x03\x03\x20\x02\x03\x21\x01\x03\x22\x00");
+    check(b"\x50\x4c\x07\x00\x02\x03\x20\x02\x03\x20\x01");
+    check(b"\x50\x4c\x07\x00\x01\x64\xc9\x02");
+    check(b"\x50\x4c\x07\x00\x00\x50\x4c\x07\x00\x00");
     let long = [0u8; 4049];
-    list(&long);
+    check(&long);
 }
 
 fn main() {

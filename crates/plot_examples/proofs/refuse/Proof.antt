@@ -27,6 +27,9 @@ slice-aggregate-write-all c = sym (length-take-le (c .before .before .write-refu
 write-all-requires : tie.Need-write-all-requires
 write-all-requires c κs = search needs
 
+figure-requires : tie.Need-figure-requires
+figure-requires c κs = search needs
+
 returns : tie.Need-returns
 returns c = search needs
 
@@ -41,4 +44,5 @@ refuse-spec =
     array-share-prefix-out
     slice-aggregate-write-all
     write-all-requires
+    figure-requires
     returns)
