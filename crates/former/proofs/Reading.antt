@@ -8,11 +8,10 @@ use lib.ListN.{length, getD, take, drop}
 use lib.Dec.{ltb, leb, eqb}
 use Rattle.lists.specs.Choice.{pick}
 use Rattle.plot.specs.declared.Line.{Line}
-use Rattle.plot.specs.declared.LineCheck.{LineCheck}
 use Rattle.plot.specs.declared.LineCheck.the-variants.{Holds, Order}
 use Rattle.plot.specs.declared.Step.{Step}
 use Rattle.plot.specs.declared.Step.the-variants.{Record, End, Refused}
-use Rattle.plot.specs.Layout.{Plot, mark, headerLength, plotOf, countOf, recordLength, lineOf, noLine, within, rises, lineCheck, figureNumber, lineHolds, linesHold}
+use Rattle.plot.specs.Layout.{Plot, mark, headerLength, plotOf, countOf, recordLength, lineOf, noLine, within, rises, lineCheck, holds, lineHolds, linesHold}
 use Rattle.plot.specs.Grammar.{allZero, agree, headAt, stepAt, Parsed, Plots, Stopped, onto, readStep, readFrom, longest, reading}
 use Rattle.plot.specs.Numbers.{numberOf, placeOf}
 use Rattle.plot.proofs.Lines.{hold-none, hold-first}
@@ -30,9 +29,6 @@ module _ {A B : Type 0} (f : A → B) where
   through-equal {t} {u} {x} {y} {x′} {y′} e a b = through t a b ∙ ap (λ (v : Bool). pick v x′ y′) e
 
 -- ---- lines
-
-abbrev holds : LineCheck → Bool
-holds check = eqb (figureNumber check) 0
 
 rise-held : (t : Bool) → holds (pick (not t) Order Holds) ≡ t
 rise-held true = refl

@@ -1,4 +1,4 @@
--- "Numbers, places and the lister's text are as before on every input" (N2c), in one record: on every list of bytes as a payload, every plot number, every plot and every
+-- Numbers, places and the lister's text are as before on every input (N2c), in one record: on every list of bytes as a payload, every plot number, every plot and every
 -- input of the lister, today's answer is the former one. proofs/AsBefore.antt proves it.
 use mathlib.Core.Path.{_≡_}
 use mathlib.Core.List.{List}

@@ -20,21 +20,6 @@ pub data Former (A : Type 0) : Type 0 where
   accepted : A → Former A
   refused : ℕ → ℕ → Former A
 
-module _ {A : Type 0} where
-  -- an accepted answer has the number 0 and the place 0
-  abbrev pub formerNumber : Former A → ℕ
-  formerNumber (accepted value) = 0
-  formerNumber (refused number place) = number
-
-  abbrev pub formerPlace : Former A → ℕ
-  formerPlace (accepted value) = 0
-  formerPlace (refused number place) = place
-
-  -- what an accepted answer hands out, and 0 after a refusal
-  abbrev pub formerValue : (A → ℕ) → Former A → ℕ
-  formerValue of (accepted value) = of value
-  formerValue of (refused number place) = 0
-
 -- ---- lines
 
 -- the check of one line, "by species, class, count and then its rise" (R1)

@@ -7,12 +7,17 @@ use Rattle.plot.specs.declared.Cursor.{Cursor}
 use Rattle.plot.specs.declared.Line.{Line}
 use Rattle.plot.specs.declared.Step.{Step}
 use Rattle.plot.specs.declared.Step.the-variants as step-as
+use Rattle.plot.specs.declared.Checked.{Checked}
+use Rattle.plot.specs.declared.Checked.the-variants as checked-as
+use Rattle.plot.specs.declared.Located.{Located}
+use Rattle.plot.specs.declared.Located.the-variants as located-as
+use Rattle.plot.specs.declared.Added.{Added}
+use Rattle.plot.specs.declared.Added.the-variants as added-as
 use Rattle.plot.specs.Layout.{Plot, lineHolds, linesHold}
 use Rattle.plot.specs.Grammar.{stepAt}
 use Rattle.plot.specs.Answers.{checked, located, asked, added, payloadWith}
-use Rattle.plot.specs.Numbers.{numberOf, placeOf, payloadNumber, payloadPlace, payloadEnd}
-use Rattle.plot.specs.Numbers.{locatedNumber, locatedPlace, locatedStart, locatedLength, addedNumber, addedPlace, addedStart}
-use Rattle.former.specs.Former.{Former, accepted, refused, formerNumber, formerPlace, formerValue, formerLineHolds, formerLinesHold}
+use Rattle.plot.specs.Numbers.{numberOf, placeOf}
+use Rattle.former.specs.Former.{Former, accepted, refused, formerLineHolds, formerLinesHold}
 use Rattle.former.specs.Former.{Standing, Record, End, formerStepAt, formerChecked, Part, formerLocated, formerAsked, formerAdded, formerPayloadWith}
 
 -- lines hold where they did: one line after another, and `count` lines in turn
@@ -30,24 +35,29 @@ standing (step-as.Refused r) = refused (numberOf r) (placeOf r)
 abbrev pub SteppingAsBefore : ℕ → List ℕ → Type 0
 SteppingAsBefore at s = standing (stepAt at s) ≡ formerStepAt at s
 
+-- and so what each entry answers today
+abbrev pub checkedAs : Checked → Former Cursor
+checkedAs (checked-as.Accepted c) = accepted c
+checkedAs (checked-as.Refused r) = refused (numberOf r) (placeOf r)
+
+abbrev pub locatedAs : Located → Former Part
+locatedAs (located-as.At start len) = accepted (record { start = start; size = len })
+locatedAs (located-as.Refused r) = refused (numberOf r) (placeOf r)
+
+abbrev pub addedAs : Added → Former ℕ
+addedAs (added-as.At start) = accepted start
+addedAs (added-as.Refused r) = refused (numberOf r) (placeOf r)
+
 -- the check of a payload
-pub record CheckingAsBefore (s : List ℕ) : Type 0 where
-  pub number : payloadNumber (checked s) ≡ formerNumber (formerChecked s)
-  pub place : payloadPlace (checked s) ≡ formerPlace (formerChecked s)
-  -- the byte after the last record
-  pub end : payloadEnd (checked s) ≡ formerValue (λ (c : Cursor). c .at) (formerChecked s)
+abbrev pub CheckingAsBefore : List ℕ → Type 0
+CheckingAsBefore s = checkedAs (checked s) ≡ formerChecked s
 
 -- asking for plot n: what the companion tells, and the part of the payload
 pub record AskingAsBefore (n : ℕ) (s : List ℕ) : Type 0 where
-  pub number : locatedNumber (located n s) ≡ formerNumber (formerLocated n s)
-  pub place : locatedPlace (located n s) ≡ formerPlace (formerLocated n s)
-  pub start : locatedStart (located n s) ≡ formerValue (λ (part : Part). part .start) (formerLocated n s)
-  pub size : locatedLength (located n s) ≡ formerValue (λ (part : Part). part .size) (formerLocated n s)
+  pub answer : locatedAs (located n s) ≡ formerLocated n s
   pub part : asked n s ≡ formerAsked n s
 
 -- adding plot p: what is answered, and the payload afterwards
 pub record AddingAsBefore (p : Plot) (s : List ℕ) : Type 0 where
-  pub number : addedNumber (added p s) ≡ formerNumber (formerAdded p s)
-  pub place : addedPlace (added p s) ≡ formerPlace (formerAdded p s)
-  pub start : addedStart (added p s) ≡ formerValue (λ (byte : ℕ). byte) (formerAdded p s)
+  pub answer : addedAs (added p s) ≡ formerAdded p s
   pub payload : payloadWith p s ≡ formerPayloadWith p s

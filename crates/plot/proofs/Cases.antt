@@ -20,7 +20,7 @@ use Rattle.plot.specs.declared.Step.the-variants.{Record, End, Refused}
 use Rattle.plot.specs.declared.Checked.the-variants as checked-as
 use Rattle.lists.specs.Choice.{pick}
 use Rattle.plot.specs.Layout.{Plot, mark, headerLength, plotOf, countOf, recordLength, noLine, figureNumber, linesCheck, linesHold}
-use Rattle.plot.specs.Grammar.{allZero, agree, badLine, badRecord, headAt, stepAt, Parsed, Plots, Stopped, onto, readStep, readFrom, longest, reading}
+use Rattle.plot.specs.Grammar.{allZero, agree, badLine, outsideLine, headAt, stepAt, Parsed, Plots, Stopped, onto, readStep, readFrom, longest, reading}
 use Rattle.plot.specs.Answers.{checkedOf}
 use Rattle.plot.proofs.Lines.{not-held, all-held}
 
@@ -78,7 +78,7 @@ module _ (at : ℕ) (s : List ℕ) where
     head-short h = rw (h1, lt-ltb _ _ h)
 
     module _ (h2 : 5 ≤ length s) where
-      pub head-lines : 40 < getD s 4 0 → Refused (badRecord at) ≡ headAt at s
+      pub head-lines : 40 < getD s 4 0 → Refused (outsideLine at) ≡ headAt at s
       unfolding headAt
       head-lines h = rw (h1, le-ltb _ _ h2, lt-ltb _ _ h)
 
@@ -88,7 +88,7 @@ module _ (at : ℕ) (s : List ℕ) where
         head-cut h = rw (h1, le-ltb _ _ h2, le-ltb _ _ h3, lt-ltb _ _ h)
 
         module _ (h4 : recordLength (countOf s) ≤ length s) where
-          pub head-plot : plotOf s ≡ 0 → Refused (badRecord at) ≡ headAt at s
+          pub head-plot : plotOf s ≡ 0 → Refused (outsideLine at) ≡ headAt at s
           unfolding headAt
           head-plot h = rw (h1, le-ltb _ _ h2, le-ltb _ _ h3, le-ltb _ _ h4, eq-eqb _ _ h)
 

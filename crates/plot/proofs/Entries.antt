@@ -4,7 +4,7 @@ use Prim.Native.Nat.{ℕ, _+_, _-_, _%_, _<_, _≤_}
 use native.Mathlib.Omega.{arith}
 use native.Mathlib.Nat.{le-refl}
 use mathlib.Core.Path.{_≡_, refl, sym, ap, _∙_}
-use mathlib.Core.Bool.{true, false, not}
+use mathlib.Core.Bool.{true, not}
 use mathlib.Core.List.{List, [], _∷_, _++_}
 use lib.ListN.{length, take, drop, length-append}
 use lib.Seq.{drop-drop}
@@ -21,7 +21,7 @@ use Rattle.plot.specs.declared.Located.the-variants as located-as
 use Rattle.plot.specs.declared.Added.the-variants as added-as
 use Rattle.lists.proofs.Test.{pick-of}
 use Rattle.plot.specs.Layout.{Plot, recordLength, noLine, figureNumber, linesCheck, linesHold, linesOf, recordOf, bytesOf}
-use Rattle.plot.specs.Grammar.{badLine, badRecord, stepAt, Parsed, Plots, Stopped, readFrom, longest, reading}
+use Rattle.plot.specs.Grammar.{badLine, outsideLine, stepAt, Parsed, Plots, Stopped, readFrom, longest, reading}
 use Rattle.plot.specs.Answers.{lastNumber, checkedOf, checked, seek, locatedOf, located, partOf, linesFit, roomFor, addedOf, added, payloadAfter, payloadWith}
 use Rattle.plot.specs.Numbers.{locatedStart}
 use Rattle.plot.proofs.Lines.{not-held}
@@ -155,17 +155,17 @@ begins-refused l r o e =
 
 -- where a plot may be added: the checks in turn
 module _ (size end last : ℕ) (p : Plot) where
-  pub add-long : 120 < length (p .lines) → added-as.Refused (badRecord end) ≡ roomFor size end last p
+  pub add-long : 120 < length (p .lines) → added-as.Refused (outsideLine end) ≡ roomFor size end last p
   unfolding roomFor
   add-long h = rw (lt-ltb _ _ h)
 
   module _ (h1 : length (p .lines) ≤ 120) where
-    pub add-odd : (length (p .lines) % 3 ≡ 0 → ⊥) → added-as.Refused (badRecord end) ≡ roomFor size end last p
+    pub add-odd : (length (p .lines) % 3 ≡ 0 → ⊥) → added-as.Refused (outsideLine end) ≡ roomFor size end last p
     unfolding roomFor
     add-odd h = rw (le-ltb _ _ h1, ne-eqb _ _ h)
 
     module _ (h2 : length (p .lines) % 3 ≡ 0) where
-      pub add-zero-plot : p .number ≡ 0 → added-as.Refused (badRecord end) ≡ roomFor size end last p
+      pub add-zero-plot : p .number ≡ 0 → added-as.Refused (outsideLine end) ≡ roomFor size end last p
       unfolding roomFor
       add-zero-plot h = rw (le-ltb _ _ h1, eq-eqb (length (p .lines) % 3) 0 h2, eq-eqb (p .number) 0 h)
 

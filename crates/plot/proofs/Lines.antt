@@ -1,21 +1,21 @@
 -- The cases of the check of one line and of lines in turn, each from the plain facts that a test of the code gives; and how the check of one line more follows
--- from the check of the others. They hold by computing the definition with the test's value.
+-- from the check of the others. They hold by computing the definition with the test's value; what fails is the same wherever the index begins, by induction on the lines.
 use Prim.Native.Nat.{ℕ, zero, suc, _+_, _*_, _-_, _<_, _≤_}
 use native.Mathlib.Omega.{arith}
 use native.Mathlib.Numerals.{add-one}
-use mathlib.Core.Path.{_≡_, refl, ap, _∙_}
+use mathlib.Core.Path.{_≡_, refl, ap}
 use mathlib.Core.Bool.{Bool, true, false}
 use mathlib.Core.List.{List}
 use lib.ListN.{drop}
 use lib.Seq.{drop-drop}
-use lib.Dec.{ltb, eqb}
+use lib.Dec.{ltb}
 use borrow.Author.Tests.{le-ltb, lt-ltb, eq-eqb, ne-eqb}
 use Rattle.lists.specs.Choice.{pick}
 use Rattle.plot.specs.declared.Line.{Line}
 use Rattle.plot.specs.declared.LineCheck.{LineCheck}
 use Rattle.plot.specs.declared.LineCheck.the-variants.{Holds, Species, Class, Count, Order}
 use Rattle.plot.specs.declared.LinesCheck.{LinesCheck}
-use Rattle.plot.specs.Layout.{lineOf, noLine, within, rises, lineCheck, figureNumber, lineHolds, linesCheck, linesHold}
+use Rattle.plot.specs.Layout.{lineOf, noLine, within, rises, lineCheck, figureNumber, holds, lineHolds, linesCheck, linesHold}
 
 -- one line
 module _ (before line : Line) where
@@ -95,7 +95,7 @@ module _ (before : Line) (count : ℕ) (s : List ℕ) (found : LinesCheck) (is :
   all-held h = rw (is, eq-eqb (figureNumber (found .check)) 0 h)
 
 -- what fails does not depend on where the index begins
-pub index-free : (count : ℕ) (before : Line) (i j : ℕ) (s : List ℕ) → linesCheck before i count s .check ≡ linesCheck before j count s .check
+index-free : (count : ℕ) (before : Line) (i j : ℕ) (s : List ℕ) → linesCheck before i count s .check ≡ linesCheck before j count s .check
 unfolding linesCheck
 index-free zero before i j s = refl
 index-free (suc count) before i j s = by-test (lineHolds before (lineOf s)) (index-free count (lineOf s) (suc i) (suc j) (drop 3 s))
@@ -117,7 +117,7 @@ unfolding linesHold linesCheck
 hold-first before count s = by-test (lineHolds before (lineOf s)) refl
   where
     by-test : (t : Bool) → lineHolds before (lineOf s) ≡ t
-        → eqb (figureNumber (pick t (linesCheck (lineOf s) 1 count (drop 3 s)) (record { check = lineCheck before (lineOf s); index = 0 }) .check)) 0
-        ≡ pick t (eqb (figureNumber (linesCheck (lineOf s) 0 count (drop 3 s) .check)) 0) false
-    by-test true e = ap (λ (c : LineCheck). eqb (figureNumber c) 0) (index-free count (lineOf s) 1 0 (drop 3 s))
+        → holds (pick t (linesCheck (lineOf s) 1 count (drop 3 s)) (record { check = lineCheck before (lineOf s); index = 0 }) .check)
+        ≡ pick t (holds (linesCheck (lineOf s) 0 count (drop 3 s) .check)) false
+    by-test true e = ap holds (index-free count (lineOf s) 1 0 (drop 3 s))
     by-test false e = e

@@ -6,7 +6,7 @@ use lib.ListN.{length, take, drop}
 use lib.Dec.{ltb, leb, eqb}
 use Rattle.lists.specs.Choice.{pick}
 use Rattle.plot.specs.Layout.{Plot, noLine, linesCheck, linesHold, linesOf, recordOf}
-use Rattle.plot.specs.Grammar.{badLine, badRecord, Parsed, Plots, Stopped, reading}
+use Rattle.plot.specs.Grammar.{badLine, outsideLine, Parsed, Plots, Stopped, reading}
 use Rattle.plot.specs.declared.Refusal.the-variants.{PlotOrder, NoSuchPlot, Full}
 use Rattle.plot.specs.declared.Checked.{Checked}
 use Rattle.plot.specs.declared.Checked.the-variants as checked-as
@@ -57,8 +57,8 @@ linesFit lines = pick (ltb 120 (length lines)) false (eqb (length lines % 3) 0)
 -- then that the plot number isn't 0, then the lines in turn, then the rise, then the space"; full "when the record needs more bytes than are left"
 unfoldable pub roomFor : ℕ → ℕ → ℕ → Plot → Added
 roomFor size end last p =
-    pick (not (linesFit (p .lines))) (added-as.Refused (badRecord end))
-    (pick (eqb (p .number) 0) (added-as.Refused (badRecord end))
+    pick (not (linesFit (p .lines))) (added-as.Refused (outsideLine end))
+    (pick (eqb (p .number) 0) (added-as.Refused (outsideLine end))
     (pick (not (linesHold noLine (linesOf p) (p .lines))) (added-as.Refused (badLine end (linesCheck noLine 0 (linesOf p) (p .lines))))
     (pick (leb (p .number) last) (added-as.Refused (PlotOrder end))
     (pick (ltb (size - end) (length (recordOf p))) (added-as.Refused (Full end))

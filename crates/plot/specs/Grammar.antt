@@ -31,8 +31,8 @@ abbrev pub badLine : ℕ → LinesCheck → Refusal
 badLine place found = BadTally place (found .check) (found .index)
 
 -- and "For faults outside a line both are 0."
-abbrev pub badRecord : ℕ → Refusal
-badRecord place = BadTally place Holds 0
+abbrev pub outsideLine : ℕ → Refusal
+outsideLine place = BadTally place Holds 0
 
 -- "the checks are, in order: as much of the mark as the payload holds; the five header bytes are there; at most 40 lines; all lines are there; plot
 -- number not 0": the checks of a record before its lines
@@ -40,9 +40,9 @@ unfoldable pub headAt : ℕ → List ℕ → Step
 headAt at s =
     pick (not (agree mark s)) (Refused (BadMark at))
     (pick (ltb (length s) headerLength) (Refused (CutShort at))
-    (pick (ltb 40 (countOf s)) (Refused (badRecord at))
+    (pick (ltb 40 (countOf s)) (Refused (outsideLine at))
     (pick (ltb (length s) (recordLength (countOf s))) (Refused (CutShort at))
-    (pick (eqb (plotOf s) 0) (Refused (badRecord at))
+    (pick (eqb (plotOf s) 0) (Refused (outsideLine at))
     (Record (at + headerLength) (countOf s) (record { at = at + recordLength (countOf s); last = plotOf s }))))))
 
 -- what stands at "a place in the payload": "If the byte there is zero, all later bytes must be zero. Otherwise the checks are ..": at the payload's end stands no byte, which counts as zero

@@ -1,6 +1,6 @@
 -- The bytes of one record (R1): mark, plot number, number of lines, lines of three bytes; and the check of its lines (R2; document 02, Note 2). A later edition of
 -- the record changes this file.
--- A list of bytes given to a reading here begins at the record's first byte.
+-- A list of bytes given to a reading here begins at the record's first byte, or at a line's where lines are read.
 use Prim.Native.Nat.{ℕ, zero, suc, _+_, _*_, _/_, _%_}
 use mathlib.Core.Bool.{Bool, true, false, not}
 use mathlib.Core.List.{List, [], _∷_, _++_}
@@ -36,11 +36,11 @@ recordLength count = headerLength + count * 3
 abbrev pub lineOf : List ℕ → Line
 lineOf s = record { species = getD s 0 0; class = getD s 1 0; count = getD s 2 0 }
 
--- before the first line stands none: every line rises above this one
+-- before the first line stands none: every line in its ranges rises above this one
 abbrev pub noLine : Line
 noLine = record { species = 0; class = 0; count = 0 }
 
--- "least to most"
+-- least to most
 abbrev pub within : ℕ → ℕ → ℕ → Bool
 within least most x = pick (ltb x least) false (leb x most)
 
@@ -67,8 +67,11 @@ figureNumber Class = 2
 figureNumber Count = 3
 figureNumber Order = 4
 
+abbrev pub holds : LineCheck → Bool
+holds check = eqb (figureNumber check) 0
+
 abbrev pub lineHolds : Line → Line → Bool
-lineHolds before line = eqb (figureNumber (lineCheck before line)) 0
+lineHolds before line = holds (lineCheck before line)
 
 -- "the lines in turn": `count` lines from the front of s on, after the line `before`, the first of them with the index i: the check of the first line that does not
 -- hold, "with the line's index from 0"; `Holds` and 0 where all hold
@@ -79,7 +82,7 @@ linesCheck before i (suc count) s =
 
 -- all of them hold
 unfoldable pub linesHold : Line → ℕ → List ℕ → Bool
-linesHold before count s = eqb (figureNumber (linesCheck before 0 count s .check)) 0
+linesHold before count s = holds (linesCheck before 0 count s .check)
 
 -- a plot: its number, and the bytes of its lines, three a line
 pub record Plot : Type 0 where

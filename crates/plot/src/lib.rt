@@ -132,7 +132,7 @@ pub fn check(payload: &[u8]) -> Checked
                 while i < count {
                     let line = line_at(payload, lines + i * 3);
                     let check = check_line(before, line);
-                    if check.number() != 0 {
+                    if check.figure() != 0 {
                         answer = Checked::Refused(Refusal::BadTally {
                             place: c.at,
                             check,
@@ -239,7 +239,7 @@ fn room(size: usize, c: Cursor, plot: u16, lines: &[u8]) -> Added
     }
     let found = check_lines(lines);
     let check = found.check;
-    if check.number() != 0 {
+    if check.figure() != 0 {
         return Added::Refused(Refusal::BadTally {
             place: at,
             check,

@@ -10,8 +10,8 @@ ghost use Rattle.plot.specs.Layout.{figureNumber};
 ghost use Rattle.plot.specs.Numbers.{numberOf, placeOf, figureOf, indexOf, payloadNumber, payloadPlace, payloadFigure, payloadIndex, payloadEnd, locatedNumber, locatedPlace, locatedFigure, locatedIndex, locatedStart, locatedLength, addedNumber, addedPlace, addedFigure, addedIndex, addedStart};
 
 impl LineCheck {
-    /// The figure: 1 species, 2 class, 3 count, 4 the rise above the line before; 0 where the line holds.
-    pub fn number(self) -> u8
+    /// Its number: 1 species, 2 class, 3 count, 4 the rise above the line before; 0 where the line holds.
+    pub fn figure(self) -> u8
         ensures { λ n. ⌜ n ≡ figureNumber self ⌝ }
     {
         match self {
@@ -75,7 +75,7 @@ impl Refusal {
                 place: _,
                 check,
                 index: _,
-            } => check.number(),
+            } => check.figure(),
             Refusal::PlotOrder(_) => 0,
             Refusal::NoSuchPlot => 0,
             Refusal::Full(_) => 0,

@@ -8,7 +8,7 @@ ghost use Prim.Native.Nat.{_+_, _≤_, _/_};
 ghost use lib.ListN.{length, drop};
 ghost use Rattle.plot.specs.Layout.{within, rises, lineOf, lineCheck, linesCheck, noLine};
 
-// Before the first line stands this one, above which every line rises.
+// Before the first line stands this one, above which every line in its ranges rises.
 pub(crate) const NO_LINE: Line = Line {
     species: 0,
     class: 0,
@@ -78,7 +78,7 @@ pub(crate) fn check_lines(lines: &[u8]) -> LinesCheck
     while i < count {
         let line = line_at(lines, i * 3);
         let check = check_line(before, line);
-        if check.number() != 0 {
+        if check.figure() != 0 {
             return LinesCheck { check, index: i };
         }
         before = line;

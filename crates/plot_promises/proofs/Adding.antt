@@ -18,15 +18,14 @@ use Rattle.plot.specs.declared.Added.{Added}
 use Rattle.plot.specs.declared.Added.the-variants.{At, Refused}
 use Rattle.plot.specs.declared.LinesCheck.{LinesCheck}
 use Rattle.plot.specs.Layout.{Plot, noLine, linesCheck, linesHold, linesOf, recordOf, bytesOf}
-use Rattle.plot.specs.Grammar.{badLine, badRecord}
-use Rattle.plot_promises.specs.Lines.{LinesHold}
-use Rattle.plot_promises.specs.Checks.{Check, _unless_, FirstFails, NoneFails, lentChecks, addChecks}
-use Rattle.plot_promises.specs.Figures.{FirstBadLine}
+use Rattle.plot.specs.Grammar.{badLine, outsideLine}
+use Rattle.plot_promises.specs.Checks.{Check, FirstFails, NoneFails, lentChecks, roomChecks, addChecks}
+use Rattle.plot_promises.specs.Figures.{BadLentHere}
 use Rattle.plot.specs.Answers.{lastNumber, linesFit, roomFor, added, payloadAfter, payloadWith}
 use Rattle.plot.specs.Numbers.{payloadNumber, payloadPlace, addedNumber, addedPlace, addedStart}
 use Rattle.plot_promises.specs.Canonical.{Contains}
 use Rattle.plot_promises.specs.Refusals.{AddingTo, AddingExactly}
-use Rattle.plot_promises.proofs.Checks.{first-one, not-both, first-before, first-after, all-after, Tested, unless-true, unless-most, unless-zero, checksOf, choice, chosen}
+use Rattle.plot_promises.proofs.Checks.{first-one, not-both, first-before, first-after, all-after, Tested, unless-true, unless-most, unless-zero, choice, chosen}
 use Rattle.plot_promises.proofs.Lines.{lines-hold-iff}
 use Rattle.plot_promises.proofs.FirstBad.{not-hold-first, hold-no-first}
 use Rattle.plot_promises.proofs.Refusals.{Refuses, LineOf, in-line, in-none, AnswerRefuses, refuse, number-some, added-at, added-refused, added-unset}
@@ -50,8 +49,8 @@ module _ (size end last : ℕ) (p : Plot) (inside : end ≤ size) where
   -- before the lines, and after them
   abbrev lentTests : List (Tested AddRefuses)
   lentTests =
-      unless-true AddRefuses 7 (Refused (badRecord end)) (refuse Refused end (badRecord end) refl (refl, refl)) (linesFit (p .lines)) _ (fit-iff (p .lines))
-      ∷ unless-zero AddRefuses 7 (Refused (badRecord end)) (refuse Refused end (badRecord end) refl (refl, refl)) (p .number)
+      unless-true AddRefuses 7 (Refused (outsideLine end)) (refuse Refused end (outsideLine end) refl (refl, refl)) (linesFit (p .lines)) _ (fit-iff (p .lines))
+      ∷ unless-zero AddRefuses 7 (Refused (outsideLine end)) (refuse Refused end (outsideLine end) refl (refl, refl)) (p .number)
       ∷ []
 
   abbrev lastTests : List (Tested AddRefuses)
@@ -71,16 +70,12 @@ module _ (size end last : ℕ) (p : Plot) (inside : end ≤ size) where
   abbrev found : LinesCheck
   found = linesCheck noLine 0 (linesOf p) (p .lines)
 
-  -- a line of the plot fails
-  abbrev pub BadLine : ℕ → ℕ → Type 0
-  BadLine figure index = NoneFails (lentChecks p) × FirstBadLine (linesOf p) (p .lines) figure index
-
   pub data RoomIs : Type 0 where
-    refused-by : (k : ℕ) → FirstFails (addChecks size end last p) k → (r : Refusal) → roomFor size end last p ≡ Refused r → Refuses end r k → LineOf BadLine r → RoomIs
+    refused-by : (k : ℕ) → FirstFails (addChecks size end last p) k → (r : Refusal) → roomFor size end last p ≡ Refused r → Refuses end r k → LineOf (BadLentHere p) r → RoomIs
     taken-at : NoneFails (addChecks size end last p) → roomFor size end last p ≡ At end → RoomIs
 
   abbrev more : List Check
-  more = (7 unless (LinesHold (linesOf p) (p .lines))) ∷ checksOf AddRefuses lastTests
+  more = roomChecks size end last p
 
   abbrev rest : Added
   rest = pick (not (linesHold noLine (linesOf p) (p .lines))) (Refused (badLine end found)) (choice AddRefuses lastTests (At end))
@@ -91,7 +86,7 @@ module _ (size end last : ℕ) (p : Plot) (inside : end ≤ size) where
     by-line g =
         let b = not-hold-first (p .lines) (linesOf p) g in
         refused-by 7 (first-after (lentChecks p) more 7 n (inl ((λ h. true-false (lines-hold-iff _ _ .1 h) g), refl))) (badLine end found)
-        (e ∙ rw g refl) (record { number-is = refl; place-is = refl }) (in-line refl (b .0) (n, b .1))
+        (e ∙ rw g refl) (record { number-is = refl; place-is = refl }) (in-line refl (n, b))
 
     past-lines : linesHold noLine (linesOf p) (p .lines) ≡ true → RoomIs
     past-lines g =
@@ -149,7 +144,7 @@ module _ (p : Plot) (s : List ℕ) (plots : List Plot) (c : Contains s plots) wh
 
   pub data AddedIs : Type 0 where
     refused : (k : ℕ) → FirstFails checks k → (r : Refusal) → added p s ≡ Refused r → Refuses end r k
-        → LineOf (BadLine (length s) end (lastNumber 0 plots) p (contains-fits s plots c)) r → AddedIs
+        → LineOf (BadLentHere p) r → AddedIs
     accepted : NoneFails checks → added p s ≡ At end → AddedIs
 
   pub added-is : AddedIs

@@ -59,8 +59,8 @@ module _ (s : List ℕ) where
 
 -- a reading that stops
 module _ (s : List ℕ) (r : Refusal) (q : reading s ≡ Stopped r) where
-  abbrev pub InLine : Type 0
-  InLine = (numberOf r ≡ 7) × (figureOf r ≢ 0) × BadLineAt s (placeOf r) (figureOf r) (indexOf r)
+  abbrev InLine : Type 0
+  InLine = (numberOf r ≡ 7) × BadLineAt s (placeOf r) (figureOf r) (indexOf r)
 
   pub stops-in : length s ≤ longest → Stops 0 0 s r
   stops-in l = subst (ReadIs 0 0 s) (sym (reading-short s l) ∙ q) (read-is (length s) 0 0 s (le-refl _))
@@ -89,7 +89,7 @@ module _ (s : List ℕ) (r : Refusal) (q : reading s ≡ Stopped r) where
     short-line = by-line (stops-in l .line)
       where
         by-line : LineOf (BadLineHere (drop (length (bytesOf (stops-in l .plots))) s)) r → InLine ⊎ NoLine r
-        by-line (in-line n z x) = inl (n, z, after-plots (λ (last : ℕ) (rest : List ℕ). BadLineHere rest (figureOf r) (indexOf r)) x)
+        by-line (in-line n x) = inl (n, after-plots (λ (last : ℕ) (rest : List ℕ). BadLineHere rest (figureOf r) (indexOf r)) x)
         by-line (in-none o never) = inr o
 
   pub stopped-is : Bytes s → RefusedAs s (numberOf r) (placeOf r)

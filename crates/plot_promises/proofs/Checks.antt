@@ -1,5 +1,5 @@
--- Checks that are made in turn. A choice by tests in turn answers by the first check that fails, or goes on where all hold: for the checks of a record and for
--- those of an added plot alike, by induction along them.
+-- Checks that are made in turn. A choice by tests in turn answers by the first check that fails, or goes on where all hold: for the checks of a record, of an added
+-- plot and of a line alike, by induction along them.
 use mathlib.Core.Path.{_≡_, refl, sym, subst, _∙_}
 use mathlib.Core.Logic.{_⊎_, _↔_, _≢_, inl, inr, ⊎-elim}
 use mathlib.Core.Bool.{Bool, true, false, not}
@@ -15,39 +15,39 @@ use Rattle.plot_promises.specs.Checks.{Check, _unless_, FirstFails, None
 -- the first check that fails is one, and then not all hold
 pub first-one : (checks : List Check) (j k : ℕ) → FirstFails checks j → FirstFails checks k → j ≡ k
 first-one [] j k a b = absurd a
-first-one ((refusal unless A) ∷ checks) j k (inl a) (inl b) = a .1 ∙ sym (b .1)
-first-one ((refusal unless A) ∷ checks) j k (inl a) (inr b) = absurd (a .0 (b .0))
-first-one ((refusal unless A) ∷ checks) j k (inr a) (inl b) = absurd (b .0 (a .0))
-first-one ((refusal unless A) ∷ checks) j k (inr a) (inr b) = first-one checks j k (a .1) (b .1)
+first-one ((n unless A) ∷ checks) j k (inl a) (inl b) = a .1 ∙ sym (b .1)
+first-one ((n unless A) ∷ checks) j k (inl a) (inr b) = absurd (a .0 (b .0))
+first-one ((n unless A) ∷ checks) j k (inr a) (inl b) = absurd (b .0 (a .0))
+first-one ((n unless A) ∷ checks) j k (inr a) (inr b) = first-one checks j k (a .1) (b .1)
 
 pub not-both : (checks : List Check) (k : ℕ) → FirstFails checks k → NoneFails checks → ⊥
 not-both [] k a b = a
-not-both ((refusal unless A) ∷ checks) k (inl a) b = a .0 (b .0)
-not-both ((refusal unless A) ∷ checks) k (inr a) b = not-both checks k (a .1) (b .1)
+not-both ((n unless A) ∷ checks) k (inl a) b = a .0 (b .0)
+not-both ((n unless A) ∷ checks) k (inr a) b = not-both checks k (a .1) (b .1)
 
 -- what holds of each number holds of that of the first check that fails
 abbrev pub EachNumber : (ℕ → Type 0) → List Check → Type 0
 EachNumber Q [] = Unit {0}
-EachNumber Q ((refusal unless A) ∷ checks) = Q refusal × EachNumber Q checks
+EachNumber Q ((n unless A) ∷ checks) = Q n × EachNumber Q checks
 
 pub first-of : (Q : ℕ → Type 0) (checks : List Check) (k : ℕ) → EachNumber Q checks → FirstFails checks k → Q k
 first-of Q [] k q a = absurd a
-first-of Q ((refusal unless A) ∷ checks) k q (inl a) = subst Q (sym (a .1)) (q .0)
-first-of Q ((refusal unless A) ∷ checks) k q (inr a) = first-of Q checks k (q .1) (a .1)
+first-of Q ((n unless A) ∷ checks) k q (inl a) = subst Q (sym (a .1)) (q .0)
+first-of Q ((n unless A) ∷ checks) k q (inr a) = first-of Q checks k (q .1) (a .1)
 
 -- checks after checks
 pub first-before : (checks more : List Check) (k : ℕ) → FirstFails checks k → FirstFails (checks ++ more) k
 first-before [] more k a = absurd a
-first-before ((refusal unless A) ∷ checks) more k (inl a) = inl a
-first-before ((refusal unless A) ∷ checks) more k (inr a) = inr (a .0, first-before checks more k (a .1))
+first-before ((n unless A) ∷ checks) more k (inl a) = inl a
+first-before ((n unless A) ∷ checks) more k (inr a) = inr (a .0, first-before checks more k (a .1))
 
 pub first-after : (checks more : List Check) (k : ℕ) → NoneFails checks → FirstFails more k → FirstFails (checks ++ more) k
 first-after [] more k a f = f
-first-after ((refusal unless A) ∷ checks) more k a f = inr (a .0, first-after checks more k (a .1) f)
+first-after ((n unless A) ∷ checks) more k a f = inr (a .0, first-after checks more k (a .1) f)
 
 pub all-after : (checks more : List Check) → NoneFails checks → NoneFails more → NoneFails (checks ++ more)
 all-after [] more a b = b
-all-after ((refusal unless A) ∷ checks) more a b = (a .0, all-after checks more (a .1) b)
+all-after ((n unless A) ∷ checks) more a b = (a .0, all-after checks more (a .1) b)
 
 -- a check with its test, true where the check fails, and what is answered then; `P` says what an answer has to do with the number of the check
 module _ {A : Type 0} (P : A → ℕ → Type 0) where

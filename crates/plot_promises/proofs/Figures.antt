@@ -18,10 +18,9 @@ use Rattle.plot.specs.Grammar.{Parsed, Plots, Stopped, reading}
 use Rattle.plot.specs.Answers.{checked, seek, located, added}
 use Rattle.plot.specs.Numbers.{numberOf, placeOf, figureOf, indexOf, payloadNumber, payloadPlace, payloadFigure, payloadIndex, locatedNumber, locatedPlace, locatedFigure, locatedIndex, addedNumber, addedPlace, addedFigure, addedIndex}
 use Rattle.plot.proofs.Entries.{located-plots, located-stopped, added-stopped}
-use Rattle.plot_promises.specs.Checks.{NoneFails, lentChecks}
 use Rattle.plot_promises.specs.Canonical.{Contains}
 use Rattle.plot_promises.specs.Refusals.{endOf}
-use Rattle.plot_promises.specs.Figures.{FirstBadLine, BadLineAt, BadLineAdded, FigureExactly, Figures}
+use Rattle.plot_promises.specs.Figures.{BadLineAt, BadLentHere, BadLineAdded, FigureExactly, Figures}
 use Rattle.plot_promises.proofs.Refusals.{Tells, in-line, in-none}
 use Rattle.plot_promises.proofs.FirstBad.{bad-some, bad-index, bad-figure, hold-no-first}
 use Rattle.plot_promises.proofs.Stepping.{stepping-no-line}
@@ -32,7 +31,7 @@ use Rattle.plot_promises.proofs.Adding.{AddedIs, refused, accepted, add
 -- an answer that tells the line which fails where it tells one, and tells it wherever one fails
 module _ (Bad : ℕ → ℕ → ℕ → Type 0) (number place figure index : ℕ) where
   abbrev TellsLine : Type 0
-  TellsLine = (number ≡ 7) × (figure ≢ 0) × Bad place figure index
+  TellsLine = (number ≡ 7) × Bad place figure index
 
   abbrev Told : ℕ → ℕ → ℕ → Type 0
   Told p f i = (number ≡ 7) × (place ≡ p) × (figure ≡ f) × (index ≡ i)
@@ -41,7 +40,7 @@ module _ (Bad : ℕ → ℕ → ℕ → Type 0) (number place figure index : ℕ
     told-bad : (p f i : ℕ) → f ≢ 0 → Told p f i → Bad p f i
     told-bad p f i z t =
         ⊎-elim
-        (λ a. subst (λ (k : ℕ). Bad k f i) (t .1) (subst (λ (k : ℕ). Bad place k i) (t .2) (subst (Bad place figure) (t .3) (a .2))))
+        (λ a. subst (λ (k : ℕ). Bad k f i) (t .1) (subst (λ (k : ℕ). Bad place k i) (t .2) (subst (Bad place figure) (t .3) (a .1))))
         (λ o. absurd (z (sym (t .2) ∙ o .0)))
         sound
 
@@ -50,7 +49,7 @@ module _ (Bad : ℕ → ℕ → ℕ → Type 0) (number place figure index : ℕ
       inside = λ p f i z. (told-bad p f i z, λ b. complete p f i b .1);
       outside = (
         (λ h p f i b. let c = complete p f i b in c .0 (sym (c .1 .2) ∙ h .0)),
-        (λ never. ⊎-elim (λ a. absurd (never _ _ _ (a .2))) (λ o. o) sound),
+        (λ never. ⊎-elim (λ a. absurd (never _ _ _ (a .1))) (λ o. o) sound),
       );
     }
 
@@ -72,7 +71,7 @@ module _ (s : List ℕ) (b : Bytes s) (number place figure index : ℕ) where
       → TellsLine (BadLineAt s) number place figure index ⊎ ((figure ≡ 0) × (index ≡ 0))
   stopped-told r q e =
       ⊎-elim
-      (λ a. inl (e .0 ∙ a .0, (λ z. a .1 (sym (e .2) ∙ z)), (rw (e .1, e .2, e .3) (a .2))))
+      (λ a. inl (e .0 ∙ a .0, rw (e .1, e .2, e .3) (a .1)))
       (λ o. inr (e .2 ∙ o .0, e .3 ∙ o .1))
       (stopped-line s r q b)
 
@@ -124,26 +123,25 @@ module _ (p : Plot) (s : List ℕ) (b : Bytes s) where
   -- to plots that the payload contains
   module _ (plots : List Plot) (c : Contains s plots) where
     room-sound : AddedIs p s plots c → Sound
-    room-sound (refused k f r e h (in-line n z x)) =
+    room-sound (refused k f r e h (in-line n x)) =
         inl (
           ap addedNumber e ∙ n,
-          (λ y. z (sym (ap addedFigure e) ∙ y)),
-          inr (record { plots = plots; contains = c; begins = ap addedPlace e ∙ h .place-is; lent = x .0; line = rw (ap addedFigure e, ap addedIndex e) (x .1) }),
+          inr (record { plots = plots; contains = c; begins = ap addedPlace e ∙ h .place-is; line = rw (ap addedFigure e, ap addedIndex e) x }),
         )
     room-sound (refused k f r e h (in-none o never)) = inr (ap addedFigure e ∙ o .0, ap addedIndex e ∙ o .1)
     room-sound (accepted f e) = inr (ap addedFigure e, ap addedIndex e)
 
-    room-complete : (place f i : ℕ) → place ≡ endOf plots → NoneFails (lentChecks p) → FirstBadLine (linesOf p) (p .lines) f i → AddedIs p s plots c
+    room-complete : (place f i : ℕ) → place ≡ endOf plots → BadLentHere p f i → AddedIs p s plots c
         → Told (BadLineAdded p s) (addedNumber a) (addedPlace a) (addedFigure a) (addedIndex a) place f i
-    room-complete place f i y n x (refused k g r e h (in-line m z w)) =
-        told-by _ _ _ _ r place f i (same r e) (m, h .place-is ∙ sym y, bad-figure _ _ _ _ _ _ (w .1) x, bad-index _ _ _ _ _ _ (w .1) x)
-    room-complete place f i y n x (refused k g r e h (in-none o never)) = absurd (never f i (n, x))
-    room-complete place f i y n x (accepted g e) = absurd (hold-no-first (p .lines) (linesOf p) (g .1 .1 .0) f i x)
+    room-complete place f i y x (refused k g r e h (in-line m w)) =
+        told-by _ _ _ _ r place f i (same r e) (m, h .place-is ∙ sym y, bad-figure _ _ _ _ _ _ (w .1) (x .1), bad-index _ _ _ _ _ _ (w .1) (x .1))
+    room-complete place f i y x (refused k g r e h (in-none o never)) = absurd (never f i x)
+    room-complete place f i y x (accepted g e) = absurd (hold-no-first (p .lines) (linesOf p) (g .1 .1 .0) f i (x .1))
 
   adding-sound : (q : Parsed) → reading s ≡ q → Sound
   adding-sound (Plots ps end) q = let c = reading-contains s ps end b q in room-sound ps c (added-is p s ps c)
   adding-sound (Stopped r) q =
-      ⊎-elim (λ h. inl (h .0, h .1, inl (h .2))) inr (stopped-told s b (addedNumber a) (addedPlace a) (addedFigure a) (addedIndex a) r q (same r (sym (added-stopped s p r q))))
+      ⊎-elim (λ h. inl (h .0, inl (h .1))) inr (stopped-told s b (addedNumber a) (addedPlace a) (addedFigure a) (addedIndex a) r q (same r (sym (added-stopped s p r q))))
 
   adding-complete : (place f i : ℕ) → BadLineAdded p s place f i
       → (f ≢ 0) × Told (BadLineAdded p s) (addedNumber a) (addedPlace a) (addedFigure a) (addedIndex a) place f i
@@ -151,7 +149,7 @@ module _ (p : Plot) (s : List ℕ) (b : Bytes s) where
       let r = line-stops s place f i x in
       (at-some s place f i x, told-by _ _ _ _ (r .0) place f i (same (r .0) (sym (added-stopped s p (r .0) (r .1)))) (r .2))
   adding-complete place f i (inr x) =
-      (bad-some _ _ f i (x .line), room-complete (x .plots) (x .contains) place f i (x .begins) (x .lent) (x .line) (added-is p s (x .plots) (x .contains)))
+      (bad-some _ _ f i (x .line .1), room-complete (x .plots) (x .contains) place f i (x .begins) (x .line) (added-is p s (x .plots) (x .contains)))
 
   pub adding-figure : FigureExactly (BadLineAdded p s) (addedNumber a) (addedPlace a) (addedFigure a) (addedIndex a)
   adding-figure = figure-exactly (BadLineAdded p s) _ _ _ _ (adding-sound (reading s) refl) adding-complete

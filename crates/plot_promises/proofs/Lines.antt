@@ -20,7 +20,7 @@ use Rattle.plot.specs.Layout.{lineOf, noLine, within, rises, lineCheck, figureN
 use Rattle.plot.proofs.Lines.{hold-none, hold-first}
 use Rattle.plot_promises.specs.Lines.{lineAt, SpeciesInRange, ClassInRange, CountInRange, InRanges, Above, LinesHold, LinesHoldIff}
 use Rattle.plot_promises.specs.Checks.{FirstFails, NoneFails}
-use Rattle.plot_promises.specs.Figures.{lineChecks, LineCheckExactly}
+use Rattle.plot_promises.specs.Figures.{checksOfLine, LineCheckExactly}
 use Rattle.plot_promises.proofs.Checks.{first-one, not-both, first-of, Tested, unless-true, chosen}
 
 -- two tests of which both have to be true
@@ -67,23 +67,23 @@ module _ (before line : Line) where
       ∷ unless-true Figure 4 Order refl (rises before line) (Above before line) (rises-iff before line)
       ∷ []
 
-  pub line-check-is : ((k : ℕ) × FirstFails (lineChecks before line) k × Figure (lineCheck before line) k) ⊎ (NoneFails (lineChecks before line) × (lineCheck before line ≡ Holds))
+  pub line-check-is : ((k : ℕ) × FirstFails (checksOfLine before line) k × Figure (lineCheck before line) k) ⊎ (NoneFails (checksOfLine before line) × (lineCheck before line ≡ Holds))
   unfolding lineCheck
   line-check-is = chosen Figure lineTests Holds
 
   -- the number of a check that fails is not 0
-  pub figure-some : (k : ℕ) → FirstFails (lineChecks before line) k → k ≢ 0
-  figure-some k = first-of (λ (j : ℕ). j ≢ 0) (lineChecks before line) k ((λ e. omega arith), ((λ e. omega arith), ((λ e. omega arith), ((λ e. omega arith), tt))))
+  pub figure-some : (k : ℕ) → FirstFails (checksOfLine before line) k → k ≢ 0
+  figure-some k = first-of (λ (j : ℕ). j ≢ 0) (checksOfLine before line) k ((λ e. omega arith), ((λ e. omega arith), ((λ e. omega arith), ((λ e. omega arith), tt))))
 
   pub line-check-exactly : LineCheckExactly before line
   line-check-exactly =
       ⊎-elim
       (λ h. record {
-        fails = λ figure z. ((λ e. subst (FirstFails (lineChecks before line)) (sym (h .2) ∙ e) (h .1)), λ f. h .2 ∙ first-one (lineChecks before line) (h .0) figure (h .1) f);
-        holds = ((λ e. absurd (figure-some (h .0) (h .1) (sym (h .2) ∙ e))), λ n. absurd (not-both (lineChecks before line) (h .0) (h .1) n));
+        fails = λ figure z. ((λ e. subst (FirstFails (checksOfLine before line)) (sym (h .2) ∙ e) (h .1)), λ f. h .2 ∙ first-one (checksOfLine before line) (h .0) figure (h .1) f);
+        holds = ((λ e. absurd (figure-some (h .0) (h .1) (sym (h .2) ∙ e))), λ n. absurd (not-both (checksOfLine before line) (h .0) (h .1) n));
       })
       (λ h. record {
-        fails = λ figure z. ((λ e. absurd (z (sym e ∙ ap figureNumber (h .1)))), λ f. absurd (not-both (lineChecks before line) figure f (h .0)));
+        fails = λ figure z. ((λ e. absurd (z (sym e ∙ ap figureNumber (h .1)))), λ f. absurd (not-both (checksOfLine before line) figure f (h .0)));
         holds = ((λ e. h .0), λ n. ap figureNumber (h .1));
       })
       line-check-is

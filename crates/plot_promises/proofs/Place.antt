@@ -16,7 +16,7 @@ use Rattle.plot.specs.declared.Step.{Step}
 use Rattle.plot.specs.declared.Step.the-variants.{Record, End, Refused}
 use Rattle.plot.specs.Layout.{mark, headerLength, plotOf, countOf, recordLength}
 use Rattle.plot_promises.specs.Checks.{NoneFails, Marked, headerChecks, Zeros, FaultAt, inZeros, inRecord}
-use Rattle.plot.specs.Grammar.{allZero, agree, badRecord, headAt, stepAt}
+use Rattle.plot.specs.Grammar.{allZero, agree, outsideLine, headAt, stepAt}
 use Rattle.plot.specs.Numbers.{numberOf, placeOf}
 use Rattle.plot_promises.proofs.Checks.{Tested, unless-true, unless-less, unless-zero, chosen}
 use Rattle.plot_promises.proofs.Refusals.{NoLine, AnswerRefuses, refuse}
@@ -58,9 +58,9 @@ module _ (at : ℕ) (s : List ℕ) where
   headTests =
       unless-true StepRefuses 5 (Refused (BadMark at)) (refuse Refused at (BadMark at) refl (refl, refl)) (agree mark s) (Marked s) (agree-iff mark s)
       ∷ unless-less StepRefuses 6 (Refused (CutShort at)) (refuse Refused at (CutShort at) refl (refl, refl)) (length s) headerLength
-      ∷ unless-less StepRefuses 7 (Refused (badRecord at)) (refuse Refused at (badRecord at) refl (refl, refl)) 40 (countOf s)
+      ∷ unless-less StepRefuses 7 (Refused (outsideLine at)) (refuse Refused at (outsideLine at) refl (refl, refl)) 40 (countOf s)
       ∷ unless-less StepRefuses 6 (Refused (CutShort at)) (refuse Refused at (CutShort at) refl (refl, refl)) (length s) (recordLength (countOf s))
-      ∷ unless-zero StepRefuses 7 (Refused (badRecord at)) (refuse Refused at (badRecord at) refl (refl, refl)) (plotOf s)
+      ∷ unless-zero StepRefuses 7 (Refused (outsideLine at)) (refuse Refused at (outsideLine at) refl (refl, refl)) (plotOf s)
       ∷ []
 
   abbrev pub recordHere : Step

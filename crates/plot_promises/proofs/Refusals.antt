@@ -62,7 +62,7 @@ Tells r place figure index = (numberOf r ≡ 7) × (placeOf r ≡ place) × (fig
 
 -- where the fault of a refusal lies: in a line, which fails as `Bad` says, or in none
 pub data LineOf (Bad : ℕ → ℕ → Type 0) (r : Refusal) : Type 0 where
-  in-line : numberOf r ≡ 7 → figureOf r ≢ 0 → Bad (figureOf r) (indexOf r) → LineOf Bad r
+  in-line : numberOf r ≡ 7 → Bad (figureOf r) (indexOf r) → LineOf Bad r
   in-none : NoLine r → ((f i : ℕ) → Bad f i → ⊥) → LineOf Bad r
 
 -- an answer of the type A, in which refusals stand by `answer`

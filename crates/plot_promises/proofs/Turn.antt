@@ -14,9 +14,8 @@ use Rattle.plot.specs.declared.Refusal.{Refusal}
 use Rattle.plot.specs.declared.Refusal.the-variants.{PlotOrder}
 use Rattle.plot.specs.declared.Step.the-variants.{Record}
 use Rattle.plot.specs.Layout.{headerLength, plotOf, countOf, recordLength, noLine, linesCheck, linesHold}
-use Rattle.plot_promises.specs.Lines.{LinesHold}
 use Rattle.plot_promises.specs.Figures.{BadLineHere}
-use Rattle.plot_promises.specs.Checks.{Check, _unless_, NoneFails, headerChecks, recordChecks, Zeros, FaultAt, RecordFault, inZeros, inRecord}
+use Rattle.plot_promises.specs.Checks.{Check, NoneFails, headerChecks, lateChecks, recordChecks, Zeros, FaultAt, RecordFault, inZeros, inRecord}
 use Rattle.plot.specs.Grammar.{badLine, stepAt, Plots, Stopped, onto, readFrom}
 use Rattle.plot.specs.Numbers.{numberOf, placeOf}
 use Rattle.plot.proofs.Cases.{plotHere, read-end, read-refused, read-lines, read-order, read-on}
@@ -48,15 +47,11 @@ module _ (checks : List Check) (s : List ℕ) where
   not-record k z (inRecord y h) a = not-both checks k h a
 
 -- a header that holds begins with the mark, so not with a zero
-pub header-some : (s : List ℕ) → NoneFails (headerChecks s) → getD s 0 0 ≢ 0
+header-some : (s : List ℕ) → NoneFails (headerChecks s) → getD s 0 0 ≢ 0
 header-some s h z =
     let l : headerLength ≤ length s = h .1 .0 in
     let m : getD s 0 0 ≡ 0x50 = h .0 0 (omega arith) (suc-le-suc zero-le) in
     omega arith
-
--- the two checks after those of the header
-abbrev lateChecks : ℕ → List ℕ → List Check
-lateChecks last s = (7 unless (LinesHold (countOf s) (drop headerLength s))) ∷ (8 unless (last < plotOf s)) ∷ []
 
 fault-more : (checks more : List Check) (s : List ℕ) (k : ℕ) → FaultAt checks s k → FaultAt (checks ++ more) s k
 fault-more checks more s k (inZeros z h e) = inZeros z h e
@@ -79,7 +74,7 @@ module _ (f at last : ℕ) (s : List ℕ) where
     lines-fail g =
         let b = not-hold-first (drop headerLength s) (countOf s) g in
         stops (badLine at (linesCheck noLine 0 (countOf s) (drop headerLength s))) (read-lines at last s _ (countOf s) next e (suc f) (suc-le-suc zero-le) g) refl
-        (in-line refl (b .0) (a, b .1))
+        (in-line refl (a, b))
         (inRecord z (first-after (headerChecks s) (lateChecks last s) 7 a (inl ((λ k. true-false (lines-hold-iff _ _ .1 k) g), refl))))
 
     module _ (g : linesHold noLine (countOf s) (drop headerLength s) ≡ true) where
@@ -134,6 +129,6 @@ line-reads (suc f) at last s figure index h b = by-turn (turn-is f at last s h)
   where
     by-turn : TurnIs f at last s → (r : Refusal) × (readFrom (suc f) at last s ≡ Stopped r) × Tells r at figure index
     by-turn (ends z q) = absurd (header-some s (b .0) (zeros-first s z))
-    by-turn (stops r q p (in-line n z x) y) = (r, q, (n, p, bad-figure _ _ _ _ _ _ (x .1) (b .1), bad-index _ _ _ _ _ _ (x .1) (b .1)))
+    by-turn (stops r q p (in-line n x) y) = (r, q, (n, p, bad-figure _ _ _ _ _ _ (x .1) (b .1), bad-index _ _ _ _ _ _ (x .1) (b .1)))
     by-turn (stops r q p (in-none o never) y) = absurd (never figure index b)
     by-turn (goes-on z from count cursor e g rise a q) = absurd (hold-no-first (drop headerLength s) (countOf s) (a .1 .1 .1 .1 .1 .0) figure index (b .1))

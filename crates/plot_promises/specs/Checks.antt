@@ -8,7 +8,7 @@ use lib.ListN.{length, getD, drop}
 use Rattle.plot.specs.Layout.{Plot, mark, headerLength, plotOf, countOf, recordLength, linesOf, recordOf}
 use Rattle.plot_promises.specs.Lines.{LinesHold}
 
--- a check, with the number that is told where it does not hold: that of the refusal, or of a value in a line
+-- a check, with the number that is told where it does not hold: that of the refusal, or the figure of a line's check
 infixl 68 _unless_
 pub data Check : Type 1 where
   _unless_ : ℕ → Type 0 → Check
@@ -16,12 +16,12 @@ pub data Check : Type 1 where
 -- "The first failing check": it does not hold, those before it do
 abbrev pub FirstFails : List Check → ℕ → Type 0
 FirstFails [] number = ⊥
-FirstFails ((refusal unless A) ∷ checks) number = ((A → ⊥) × (number ≡ refusal)) ⊎ (A × FirstFails checks number)
+FirstFails ((k unless A) ∷ checks) number = ((A → ⊥) × (number ≡ k)) ⊎ (A × FirstFails checks number)
 
 -- none fails
 abbrev pub NoneFails : List Check → Type 0
 NoneFails [] = Unit {0}
-NoneFails ((refusal unless A) ∷ checks) = A × NoneFails checks
+NoneFails ((k unless A) ∷ checks) = A × NoneFails checks
 
 -- "as much of the mark as the payload holds"
 abbrev pub Marked : List ℕ → Type 0
@@ -39,8 +39,11 @@ headerChecks s =
     ∷ []
 
 -- ".. the lines in turn, each by species, class, count and then its rise; rise of plot numbers", after a plot of the number `last`
+abbrev pub lateChecks : ℕ → List ℕ → List Check
+lateChecks last s = (7 unless (LinesHold (countOf s) (drop headerLength s))) ∷ (8 unless (last < plotOf s)) ∷ []
+
 abbrev pub recordChecks : ℕ → List ℕ → List Check
-recordChecks last s = headerChecks s ++ ((7 unless (LinesHold (countOf s) (drop headerLength s))) ∷ (8 unless (last < plotOf s)) ∷ [])
+recordChecks last s = headerChecks s ++ lateChecks last s
 
 abbrev pub Zeros : List ℕ → Type 0
 Zeros s = (i : ℕ) → i < length s → getD s i 0 ≡ 0
@@ -56,16 +59,17 @@ pub data FaultAt (checks : List Check) (s : List ℕ) (number : ℕ) : Type 0 wh
 abbrev pub RecordFault : ℕ → List ℕ → ℕ → Type 0
 RecordFault last s number = FaultAt (recordChecks last s) s number
 
--- the checks of an added plot before its lines
+-- adding a plot, after the payload's own check: "the length of the lent lines (0 to 120 bytes, three a line), then that the plot number isn't 0, then the
+-- lines in turn, then the rise, then the space", where the records end at `end`, the last has the number `last`, and the payload has `size` bytes
 abbrev pub lentChecks : Plot → List Check
 lentChecks p = (7 unless ((length (p .lines) ≤ 120) × (length (p .lines) % 3 ≡ 0))) ∷ (7 unless (p .number ≢ 0)) ∷ []
 
--- adding a plot, after the payload's own check: "the length of the lent lines (7: 0 to 120 bytes, three a line), then that the plot number isn't 0, then the
--- lines in turn, then the rise, then the space", where the records end at `end`, the last has the number `last`, and the payload has `size` bytes
-abbrev pub addChecks : ℕ → ℕ → ℕ → Plot → List Check
-addChecks size end last p =
-    lentChecks p
-    ++ ((7 unless (LinesHold (linesOf p) (p .lines)))
+abbrev pub roomChecks : ℕ → ℕ → ℕ → Plot → List Check
+roomChecks size end last p =
+    (7 unless (LinesHold (linesOf p) (p .lines)))
     ∷ (8 unless (last < p .number))
     ∷ (10 unless (end + length (recordOf p) ≤ size))
-    ∷ [])
+    ∷ []
+
+abbrev pub addChecks : ℕ → ℕ → ℕ → Plot → List Check
+addChecks size end last p = lentChecks p ++ roomChecks size end last p

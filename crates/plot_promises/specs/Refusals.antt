@@ -1,5 +1,5 @@
 -- What the entries on a payload answer, exactly when (R1 to R5, E3, E4), over plots, bytes and document 01's numbers: what stands at a place, the check of a
--- payload, asking for a plot, and adding one. These fix number, place and every value of an answer. proofs/Stepping.antt, Checking.antt, Asking.antt and
+-- payload, asking for a plot, and adding one. These fix number, place and every value of an answer, and Figures.antt the figure and the line. proofs/Stepping.antt, Checking.antt, Asking.antt and
 -- Adding.antt prove them.
 use mathlib.Core.Path.{_≡_}
 use mathlib.Core.Logic.{_↔_, _⊎_, _≢_}
@@ -30,7 +30,7 @@ pub record SteppingExactly (at : ℕ) (s : List ℕ) : Type 0 where
   pub refused : (number place : ℕ)
       → ((r : Refusal) × (stepAt at s ≡ Refused r) × (numberOf r ≡ number) × (placeOf r ≡ place)) ↔ (FaultAt (headerChecks s) s number × (place ≡ at))
 
--- the records of plots that hold and rise, then, at `place`, bytes of which `Here` is true, after a plot of the number that it is told
+-- the records of plots that hold and rise, then, at `place`, bytes of which `Here` is true; it is told the last plot's number, 0 if there is none, and these bytes
 pub record AfterPlots (Here : ℕ → List ℕ → Type 0) (s : List ℕ) (place : ℕ) : Type 0 where
   pub short : length s ≤ 4048
   pub plots : List Plot

@@ -68,8 +68,8 @@ line-at-requires c κs = omega (arith, bounds-here (c .before .before))
 check-line-requires : tie.Need-check-line-requires Inv-loop μ-loop Inv-records μ-records
 check-line-requires c κs = search needs
 
-number-requires : tie.Need-number-requires Inv-loop μ-loop Inv-records μ-records
-number-requires c κs = search needs
+figure-requires : tie.Need-figure-requires Inv-loop μ-loop Inv-records μ-records
+figure-requires c κs = search needs
 
 add-i : tie.Need-add-i Inv-loop μ-loop Inv-records μ-records
 add-i c = omega arith
@@ -82,7 +82,7 @@ loop-again c =
     let d = c .before .before in (
       omega arith,
       d .before .before .before .loop .inv .1
-          ∙ lines-on _ _ _ _ _ (d .before .before .loop-test .taken) _ (d .before .line-at .ensures) _ (d .check-line .ensures) (sym (c .before .number .ensures) ∙ c .if2 .left),
+          ∙ lines-on _ _ _ _ _ (d .before .before .loop-test .taken) _ (d .before .line-at .ensures) _ (d .check-line .ensures) (sym (c .before .figure .ensures) ∙ c .if2 .left),
     )
 
 records-less : tie.Need-records-less Inv-loop μ-loop Inv-records μ-records
@@ -110,7 +110,7 @@ returns-2 c =
     let e = c .before .before in
     let d = e .before .before .before .before in
     let o = d .before .before .before .before .records in
-    let f : figureNumber (e .check-line .result) ≡ 0 → ⊥ = λ z. c .if2 .taken (c .before .number .ensures ∙ z) in
+    let f : figureNumber (e .check-line .result) ≡ 0 → ⊥ = λ z. c .if2 .taken (c .before .figure .ensures ∙ z) in
     let g = e .before .before .before .loop .inv .1 ∙ lines-not _ _ _ _ _ (e .before .before .loop-test .taken) _ (e .before .line-at .ensures) _ (e .check-line .ensures) f in
     checked-stopped _ _ _ (turn-lines _ _ _ _ _ _ _ (step-is d) (o .inv .1) _ g f) ∙ sym (o .inv .3)
 
@@ -150,7 +150,7 @@ check-spec =
     add-line-at
     line-at-requires
     check-line-requires
-    number-requires
+    figure-requires
     add-i
     loop-less
     loop-again

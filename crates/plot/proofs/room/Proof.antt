@@ -23,18 +23,18 @@ returns-3 c = add-zero-plot _ _ _ _ (c .before .before .if1 .left) (c .before .i
 check-lines-requires : tie.Need-check-lines-requires
 check-lines-requires c κs = search needs
 
-number-requires : tie.Need-number-requires
-number-requires c κs = search needs
+figure-requires : tie.Need-figure-requires
+figure-requires c κs = search needs
 
 returns-4 : tie.Need-returns-4
 returns-4 c =
     let d = c .before .before in
     add-lines _ _ _ _ (d .before .before .before .if1 .left) (d .before .before .if2 .left) (d .before .if3 .left) _ (d .check-lines .ensures)
-    (λ z. c .if4 .taken (c .before .number .ensures ∙ z))
+    (λ z. c .if4 .taken (c .before .figure .ensures ∙ z))
 
 -- past that test the lines hold
 hold : (c : tie.Else4) → let p = c .before .before .before .before .before .before .before .args .lines .now in linesHold noLine (length p / 3) p ≡ true
-hold c = all-held _ _ _ _ (sym (c .before .before .check-lines .ensures)) (sym (c .before .number .ensures) ∙ c .if4 .left)
+hold c = all-held _ _ _ _ (sym (c .before .before .check-lines .ensures)) (sym (c .before .figure .ensures) ∙ c .if4 .left)
 
 returns-5 : tie.Need-returns-5
 returns-5 c =
@@ -65,7 +65,7 @@ room-spec =
     returns-2
     returns-3
     check-lines-requires
-    number-requires
+    figure-requires
     returns-4
     returns-5
     sub-if6

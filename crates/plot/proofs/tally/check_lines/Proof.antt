@@ -1,13 +1,11 @@
 -- What is found in the lines is what is found from line `i` on; the measure is the lines left.
-use native.Mathlib.Nat.{zero-add}
-use Rattle.plot.specs.Layout.{lineOf}
 use Prim.Native.Nat.{_+_, _*_, _-_, _≤_}
 use native.Mathlib.Omega.{arith}
-use native.Mathlib.Nat.{div-mul-le-self}
+use native.Mathlib.Nat.{zero-add, div-mul-le-self}
 use mathlib.Core.Path.{_≡_, sym, _∙_}
 use lib.ListN.{length, drop}
 use borrow.Author.Needs.{needs}
-use Rattle.plot.specs.Layout.{noLine, linesCheck}
+use Rattle.plot.specs.Layout.{lineOf, noLine, linesCheck}
 use Rattle.plot.proofs.Lines.{lines-end, lines-not, lines-on, first-lines}
 use Rattle.plot.proofs.tally.check_lines.Statement.{statement}
 use Rattle.plot.proofs.tally.check_lines.Tie as tie
@@ -30,8 +28,8 @@ line-at-requires c κs = omega (arith, div-mul-le-self (length (c .before .befor
 check-line-requires : tie.Need-check-line-requires Inv-loop μ-loop
 check-line-requires c κs = search needs
 
-number-requires : tie.Need-number-requires Inv-loop μ-loop
-number-requires c κs = search needs
+figure-requires : tie.Need-figure-requires Inv-loop μ-loop
+figure-requires c κs = search needs
 
 line-is : (c : tie.After-line-at Inv-loop μ-loop) → c .line-at .result ≡ lineOf (drop (0 + c .before .before .loop .i * 3) (c .before .before .before .before .args .lines .now))
 line-is c = rw zero-add (c .line-at .ensures)
@@ -40,7 +38,7 @@ returns : tie.Need-returns Inv-loop μ-loop
 returns c =
     let d = c .before .before in
     sym (d .before .before .before .loop .inv .1
-    ∙ lines-not _ _ _ _ 0 (d .before .before .loop-test .taken) _ (line-is (d .before)) _ (d .check-line .ensures) (λ z. c .if1 .taken (c .before .number .ensures ∙ z)))
+    ∙ lines-not _ _ _ _ 0 (d .before .before .loop-test .taken) _ (line-is (d .before)) _ (d .check-line .ensures) (λ z. c .if1 .taken (c .before .figure .ensures ∙ z)))
 
 add-i : tie.Need-add-i Inv-loop μ-loop
 add-i c = omega (arith, div-mul-le-self (length (c .before .before .before .before .before .before .before .args .lines .now)) 3)
@@ -53,7 +51,7 @@ loop-again c =
     let d = c .before .before in (
       omega arith,
       d .before .before .before .loop .inv .1
-          ∙ lines-on _ _ _ _ 0 (d .before .before .loop-test .taken) _ (line-is (d .before)) _ (d .check-line .ensures) (sym (c .before .number .ensures) ∙ c .if1 .left),
+          ∙ lines-on _ _ _ _ 0 (d .before .before .loop-test .taken) _ (line-is (d .before)) _ (d .check-line .ensures) (sym (c .before .figure .ensures) ∙ c .if1 .left),
     )
 
 returns-2 : tie.Need-returns-2 Inv-loop μ-loop
@@ -69,7 +67,7 @@ check-lines-spec =
     mul-line-at
     line-at-requires
     check-line-requires
-    number-requires
+    figure-requires
     returns
     add-i
     loop-less
