@@ -16,7 +16,7 @@ static void print_fault(size_t figure, size_t line) {
         [TISHWABE_FIGURE_SPECIES] = "species",
         [TISHWABE_FIGURE_CLASS] = "class",
         [TISHWABE_FIGURE_COUNT] = "count",
-        [TISHWABE_FIGURE_ORDER] = "not above the line before",
+        [TISHWABE_FIGURE_ORDER] = "species and class not above the line before",
     };
     if (figure != TISHWABE_FIGURE_NONE) {
         printf(", line %zu (the first is 0): %s", line, figures[figure]);

@@ -38,7 +38,7 @@ impl fmt::Display for Figure {
             Figure::Species => "species number out of range",
             Figure::Class => "diameter class out of range",
             Figure::Count => "tree count out of range",
-            Figure::Order => "not above the line before",
+            Figure::Order => "species and class not above the line before",
         })
     }
 }
@@ -75,7 +75,7 @@ impl fmt::Display for LineFault {
 /// assert_eq!(text(Figure::Species), format!("{start} species number out of range {end}"));
 /// assert_eq!(text(Figure::Class), format!("{start} diameter class out of range {end}"));
 /// assert_eq!(text(Figure::Count), format!("{start} tree count out of range {end}"));
-/// assert_eq!(text(Figure::Order), format!("{start} not above the line before {end}"));
+/// assert_eq!(text(Figure::Order), format!("{start} species and class not above the line before {end}"));
 /// ```
 #[derive(Clone, Copy, Debug, PartialEq, Eq, Hash)]
 pub enum Error {
