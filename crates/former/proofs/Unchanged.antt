@@ -1,5 +1,5 @@
--- The statements of specs/Unchanged.antt: checking, asking and adding take from the reading what they took before, so with equal readings the answers are equal. A
--- value handed out is compared case by case, and each case holds by computing.
+-- The statements of specs/Unchanged.antt: checking, asking and adding take from the reading what they took before, so with equal readings the answers are equal. An
+-- answer is compared case by case, and each case holds by computing.
 use Prim.Native.Nat.{ℕ, _+_, _-_}
 use mathlib.Core.Path.{_≡_, refl, ap, _∙_}
 use mathlib.Core.Bool.{not}
@@ -12,7 +12,7 @@ use Rattle.plot.specs.declared.Added.{Added}
 use Rattle.plot.specs.declared.Added.the-variants as added-as
 use Rattle.plot.specs.Layout.{Plot, noLine, linesOf, recordOf}
 use Rattle.plot.specs.Grammar.{Parsed, Plots, Stopped, reading}
-use Rattle.plot.specs.Answers.{checkedOf, checked, seek, locatedOf, located, partOf, linesFit, roomFor, addedOf, added, payloadAfter}
+use Rattle.plot.specs.Answers.{checkedOf, seek, locatedOf, located, partOf, linesFit, roomFor, addedOf, added, payloadAfter}
 use Rattle.former.specs.Former.{Former, formerCheckedOf}
 use Rattle.former.specs.Former.{Part, formerSeek, formerLocatedOf, formerLocated, formerPartOf, formerRoomFor, formerAddedOf, formerAdded, formerPayloadAfter}
 use Rattle.former.specs.Unchanged.{LinesAsBefore, SteppingAsBefore, checkedAs, CheckingAsBefore, locatedAs, AskingAsBefore, addedAs, AddingAsBefore}
