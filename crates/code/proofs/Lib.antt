@@ -3,5 +3,6 @@ pub mod Generator
 pub mod Distance
 pub mod Division
 pub mod Shifted
+pub mod Split
 pub mod Search
 pub mod Theorems

@@ -87,6 +87,10 @@ pub feedback-is : (x : Register) (c : ℕ) → x .w7 < 2 ^ 64 → c < 256 → (b
 unfolding add
 feedback-is x c h hc = (ap (λ (t : ℕ). bitXor t c) (cells-top x h), add-lt (shr 56 (x .w7)) c (omega arith) hc)
 
+pub feedback-below-is : (x : Register) (c : ℕ) → c < 256 → (bitXor (x .w0 % 256) c ≡ add (getD (cells x) 0 0) c) × (bitXor (x .w0 % 256) c < 256)
+unfolding add
+feedback-below-is x c hc = (ap (λ (t : ℕ). bitXor t c) (cells-bottom x), add-lt (x .w0 % 256) c (omega arith) hc)
+
 unpack-bytes : (ws : List ℕ) → Bytes (unpack ws)
 unpack-bytes [] = tt
 unpack-bytes (w ∷ ws) = append-bytes (bytesFrom 8 0 w) (unpack ws) (word-bytes 8 0 w) (unpack-bytes ws)

@@ -7,7 +7,7 @@ use lib.ListN.{getD, take, drop, replicate}
 use Rattle.field.specs.Field.{add, inverse}
 use Rattle.code.specs.Poly.{padd, pscale}
 use Rattle.code.specs.Run.{tail}
-use Rattle.words.specs.Cells.{shiftUp}
+use Rattle.words.specs.Cells.{shiftUp, shiftDown}
 
 -- one step of a register R of r cells by the low cells of a monic g of r + 1, fed with x at the top
 unfoldable pub feed : ℕ → List ℕ → ℕ → List ℕ → List ℕ
@@ -29,3 +29,12 @@ monicOf r G = drop (64 - r) (G ++ (1 ∷ []))
 -- the generator of the step back: the cells above the lowest, each divided by the lowest
 unfoldable pub backGenerator : List ℕ → List ℕ
 backGenerator g = pscale (inverse (getD g 0 0)) (tail g)
+
+-- one step back of a register R by such a generator G, fed with x at the bottom
+unfoldable pub feedBack : List ℕ → ℕ → List ℕ → List ℕ
+feedBack G x R = padd (shiftDown R 0) (pscale (add (getD R 0 0) x) G)
+
+-- the register after all cells of a list, from the first to the last
+unfoldable pub feedsBack : List ℕ → List ℕ → List ℕ → List ℕ
+feedsBack G R [] = R
+feedsBack G R (x ∷ m) = feedsBack G (feedBack G x R) m

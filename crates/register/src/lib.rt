@@ -11,8 +11,10 @@ ghost use Rattle.code.specs.Search.{extent};
 ghost use Rattle.words.specs.Cells.{shiftUp, shiftDown, padTo};
 ghost use Rattle.words.specs.Doubles.{DoublesOf};
 ghost use Rattle.register.specs.Words.{cells};
-ghost use Rattle.register.specs.Register.{feeds, onTop, monicOf, backGenerator};
+ghost use Rattle.register.specs.Register.{feeds, feedsBack, onTop, monicOf, backGenerator};
 use words::Doubles;
+
+mod lower;
 
 /// Eight words of eight cells; the lowest cell is the lowest byte of w0.
 pub struct Register {
@@ -111,6 +113,13 @@ pub fn feedback(x: Register, c: u8) -> usize
     ((x.w7 >> 56) as usize) ^ (c as usize)
 }
 
+// The feedback of division backwards: the sum of the lowest cell and the cell that comes in, as an index.
+fn feedback_below(x: Register, c: u8) -> usize
+    ensures { λ f. ⌜ (f ≡ add (getD (cells x) 0 0) c) × (f < 256) ⌝ }
+{
+    ((x.w0 % 256) as usize) ^ (c as usize)
+}
+
 /// The lowest cell, as an index.
 pub fn bottom(x: Register) -> usize
     ensures { λ r. ⌜ (r ≡ getD (cells x) 0 0) × (r < 256) ⌝ }
@@ -197,6 +206,25 @@ pub fn divide(g: Register, input: &[u8]) -> Register
     x
 }
 
+/// The register after all cells of the input, from the first to the last, with g as the generator of the step back: each cell is added to the lowest one,
+/// and the rows of the two halves of the sum take the step.
+pub fn divide_back(g: Register, input: &[u8]) -> Register
+    ensures { λ r. ⌜ cells r ≡ feedsBack (cells g) (replicate 64 0) (now (input .entry)) ⌝ }
+{
+    let low = rows(g);
+    let high = high_rows(g);
+    let mut x = blank();
+    let mut i: usize = 0;
+    while i < input.len() {
+        let c = input[i];
+        i += 1;
+        let f = feedback_below(x, c);
+        let next = add(add(shift_down(x), high[f / 16]), low[f % 16]);
+        x = next;
+    }
+    x
+}
+
 // A count of cells, at most the 64 that a register has.
 fn clamp(r: usize) -> usize
     ensures { λ n. ⌜ n ≡ min r 64 ⌝ }
@@ -234,56 +262,12 @@ pub fn low_cells(x: Register) -> [u8; 64]
     out
 }
 
-// Eight cells down: the words move.
-fn word_lower(x: Register) -> Register
-    ensures { λ r. ⌜ cells r ≡ padTo 64 (drop 8 (cells x)) ⌝ }
-{
-    Register {
-        w0: x.w1,
-        w1: x.w2,
-        w2: x.w3,
-        w3: x.w4,
-        w4: x.w5,
-        w5: x.w6,
-        w6: x.w7,
-        w7: 0,
-    }
-}
-
-// 8 n cells down.
-fn lower_words(x: Register, n: usize) -> Register
-    ensures { λ r. ⌜ cells r ≡ padTo 64 (drop (8 * n) (cells x)) ⌝ }
-{
-    let mut rest = x;
-    let mut i: usize = 0;
-    while i < n {
-        let next = word_lower(rest);
-        rest = next;
-        i += 1;
-    }
-    rest
-}
-
-// n cells down.
-fn lower_cells(x: Register, n: usize) -> Register
-    ensures { λ r. ⌜ cells r ≡ padTo 64 (drop n (cells x)) ⌝ }
-{
-    let mut rest = x;
-    let mut i: usize = 0;
-    while i < n {
-        let next = shift_down(rest);
-        rest = next;
-        i += 1;
-    }
-    rest
-}
-
 /// The highest r cells, moved down to the lowest.
 pub fn lowered(x: Register, r: usize) -> Register
     ensures { λ z. ⌜ cells z ≡ padTo 64 (drop (64 - min r 64) (cells x)) ⌝ }
 {
     let n = 64 - clamp(r);
-    lower_cells(lower_words(x, n / 8), n % 8)
+    lower::lower_cells(lower::lower_words(x, n / 8), n % 8)
 }
 
 /// One past the last cell that is not zero; 0 for a blank register.

@@ -105,12 +105,15 @@ pad-down (suc (suc n)) (x ∷ []) h = ap (λ (t : List ℕ). 0 ∷ t) (pad-down 
 pad-down (suc (suc n)) (x ∷ y ∷ l) h = ap (λ (t : List ℕ). y ∷ t) (pad-down (suc n) (y ∷ l) (le-of-suc-le-suc h))
 
 -- zeros at the end of a list are the padding's own
-pad-more : (n k : ℕ) (l : List ℕ) → padTo n (l ++ replicate k 0) ≡ padTo n l
+pub pad-more : (n k : ℕ) (l : List ℕ) → padTo n (l ++ replicate k 0) ≡ padTo n l
 unfolding padTo
 pad-more zero k l = refl
 pad-more (suc n) zero [] = refl
 pad-more (suc n) (suc k) [] = ap (λ (t : List ℕ). 0 ∷ t) (pad-more n k [])
 pad-more (suc n) k (x ∷ l) = ap (λ (t : List ℕ). x ∷ t) (pad-more n k l)
+
+pub pad-zeros : (n k : ℕ) → padTo n (replicate k 0) ≡ replicate n 0
+pad-zeros n k = pad-more n k [] ∙ pad-nil n
 
 drop-more : (m n k : ℕ) (l : List ℕ) → padTo n (drop m (l ++ replicate k 0)) ≡ padTo n (drop m l)
 drop-more zero n k l = pad-more n k l

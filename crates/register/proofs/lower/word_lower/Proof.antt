@@ -1,8 +1,8 @@
 -- The words move, and the cells compute.
 use mathlib.Core.Path.{refl}
 use Rattle.register.proofs.Moves.{word-lower-law}
-use Rattle.register.proofs.word_lower.Statement.{statement}
-use Rattle.register.proofs.word_lower.Tie as tie
+use Rattle.register.proofs.lower.word_lower.Statement.{statement}
+use Rattle.register.proofs.lower.word_lower.Tie as tie
 
 returns : tie.Need-returns
 returns c = word-lower-law _ 0 refl

@@ -7,8 +7,8 @@ use Rattle.words.specs.Cells.{padTo}
 use Rattle.register.specs.Words.{cells}
 use Rattle.register.proofs.Cells.{cells-length}
 use Rattle.register.proofs.Moves.{lower-none, lower-more}
-use Rattle.register.proofs.lower_cells.Statement.{statement}
-use Rattle.register.proofs.lower_cells.Tie as tie
+use Rattle.register.proofs.lower.lower_cells.Statement.{statement}
+use Rattle.register.proofs.lower.lower_cells.Tie as tie
 
 abbrev Inv-loop : tie.InvT-loop
 Inv-loop n rest₀ i₀ rest i = (i ≤ n) × (cells rest ≡ padTo 64 (drop i (cells rest₀)))
