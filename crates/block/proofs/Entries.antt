@@ -1,34 +1,38 @@
 -- The cases of an entry, over plain values: refusal 1, refusal 2, and what the register gives for an accepted block.
-use mathlib.Core.Path.{_≡_, sym, ap, ap₂, _∙_}
+use mathlib.Core.Path.{_≡_, refl, sym, ap, ap₂, _∙_}
 use mathlib.Core.Bool.{Bool, true, false}
-use mathlib.Core.List.{List, _++_}
-use Prim.Native.Nat.{ℕ, _+_, _-_, _≤_, _<_, min}
-use native.Mathlib.Nat.{min-eq-left}
+use mathlib.Core.List.{List, [], _++_}
+use Prim.Native.Nat.{ℕ, _+_, _-_, _≤_, _<_, min, zero-le}
+use native.Mathlib.Nat.{min-eq-left, min-eq-right, le-of-eq}
+use mathlib.Core.Logic.{⊎-elim}
+use Rattle.lists.proofs.Test.{lt-or-ge, both-true}
 use native.Mathlib.Omega.{arith}
 use lib.Dec.{eqb}
-use lib.ListN.{length, getD, take, drop, replicate, take-append-drop, length-drop}
+use lib.ListN.{length, getD, take, drop, replicate, take-append-drop, length-drop, drop-of-length-le}
 use lib.Seq.{length-take-le, take-all, take-at, getD-append-add}
-use borrow.Author.Tests.{eq-eqb, ne-eqb}
+use borrow.Author.Tests.{eqb-true, eq-eqb, ne-eqb, le-leb, lt-leb}
 use Rattle.lists.specs.Choice.{pick, both}
 use Rattle.lists.specs.Bytes.{Bytes}
 use Rattle.code.specs.Poly.{padd}
 use Rattle.code.specs.Code.{generator, remainder}
-use Rattle.code.specs.Run.{ZeroFrom}
+use Rattle.code.specs.Run.{ZeroFrom, shiftedRemainder}
+use Rattle.block.specs.Numbers.{verdictStart}
 use Rattle.code.specs.Search.{extent}
 use Rattle.lists.proofs.Bytes.{take-bytes, drop-bytes}
-use Rattle.code.proofs.Poly.{getD-zeros}
+use Rattle.code.proofs.Poly.{getD-zeros, padd-zeros}
 use Rattle.code.proofs.Division.{remainder-length}
+use Rattle.code.proofs.Split.{remainder-short}
 use Rattle.words.specs.Cells.{padTo}
 use Rattle.register.specs.Register.{onTop, feeds, monicOf, backGenerator}
-use Rattle.words.proofs.Pad.{pad-sum, pad-is}
+use Rattle.words.proofs.Pad.{pad-length, pad-more, pad-zeros, pad-sum, pad-is}
 use Rattle.register.proofs.Align.{drop-top}
 use Rattle.register.proofs.Forward.{feeds-top}
 use Rattle.register.proofs.Generator.{monic-generator}
 use Rattle.words.proofs.LastCell.{extent-pad}
 use Rattle.register.proofs.Remainder.{remainder-feeds, check-cells}
 use Rattle.profile.specs.Profile.{InRange, inRange, messageLength}
-use Rattle.block.specs.Block.{checkCells, encode, isClean, verdict, filled, readRemainder, checkAnswer, writeFits, writeAnswer, writeLeaves, correctFits, correctAnswer, correctLeaves}
-use Rattle.block.specs.Found.{generatorOnTop}
+use Rattle.block.specs.Block.{checkCells, encode, isClean, judged, verdict, filled, readRemainder, checkAnswer, writeFits, writeAnswer, writeLeaves, correctFits, correctAnswer, correctLeaves, lookAnswer, lookError}
+use Rattle.block.specs.Found.{generatorOnTop, shiftedAt}
 use Rattle.block.specs.declared.Verdict.{Verdict}
 use Rattle.block.specs.declared.Verdict.the-variants as verdicts
 use Rattle.block.specs.declared.Written.the-variants as writes
@@ -38,6 +42,10 @@ use Rattle.profile.proofs.Refusing.{refuse-one, refuse-two, accept}
 use Rattle.block.proofs.Encoding.{check-length}
 
 -- ---- lengths
+
+both-no : (a : Bool) → both a false ≡ false
+both-no true = refl
+both-no false = refl
 
 pub both-right-length : (a b m n : ℕ) → a ≡ m → b ≡ n → both (eqb a m) (eqb b n) ≡ true
 both-right-length a b m n e f = rw (eq-eqb a m e, eq-eqb b n f)
@@ -72,20 +80,44 @@ module _ (p : Profile) (v : InRange p) where
       eZ ∙ ap₂ (λ (k : ℕ) (u : List ℕ). padTo 64 (drop (64 - k) u)) whole (eX ∙ ap (λ (u : List ℕ). feeds 64 u m) eG ∙ feeds-top (p .r) g m (v .r-most))
       ∙ ap (padTo 64) (drop-top (p .r) (feeds (p .r) g m) ∙ sym (check-cells (p .b) (p .r) (omega (arith, v .r-least)) m (omega (arith, v .r-most)) h))
 
-  pub remainder-law : (y Z L C : List ℕ) → length y ≡ p .n → Bytes y → L ≡ padTo 64 (take (p .r) y)
-      → C ≡ padTo 64 (checkCells (p .b) (p .r) (take (length y - p .r) (drop (p .r) y))) → Z ≡ padd L C → Z ≡ padTo 64 (remainder (p .r) (generator (p .b) (p .r)) y)
-  unfolding checkCells
-  remainder-law y Z L C l h eL eC eZ =
-      let r : ℕ = p .r in
-      let g : List ℕ = generator (p .b) r in
-      let pos : 0 < r = omega (arith, v .r-least) in
-      let low : length (take r y) ≡ r = length-take-le r y (omega (arith, v .r-below)) in
-      let whole : take (length y - r) (drop r y) ≡ drop r y = take-all (length y - r) (drop r y) (omega (arith, length-drop r y)) in
-      eZ ∙ ap₂ padd eL (eC ∙ ap (λ (m : List ℕ). padTo 64 (checkCells (p .b) r m)) whole) ∙ pad-sum 64 (take r y) _
-      ∙ ap (padTo 64)
-      (ap (padd (take r y)) (check-cells (p .b) r pos (drop r y) (omega (arith, v .r-most)) (drop-bytes r y h))
-      ∙ sym (remainder-feeds (p .b) r pos (drop r y) (take r y) (omega (arith, v .r-most)) low (take-bytes r y h) (drop-bytes r y h))
-      ∙ ap (remainder r g) (take-append-drop r y))
+  -- the lowest cells, r of them where there are as many, plus the check cells of those above
+  module _ (y Z L C : List ℕ) (h : Bytes y) where
+    long-law : p .r ≤ length y → L ≡ padTo 64 (take (p .r) y) → C ≡ padTo 64 (checkCells (p .b) (p .r) (take (length y - p .r) (drop (p .r) y)))
+        → Z ≡ padd L C → Z ≡ padTo 64 (remainder (p .r) (generator (p .b) (p .r)) y)
+    unfolding checkCells
+    long-law l eL eC eZ =
+        let r : ℕ = p .r in
+        let g : List ℕ = generator (p .b) r in
+        let pos : 0 < r = omega (arith, v .r-least) in
+        let low : length (take r y) ≡ r = length-take-le r y l in
+        let whole : take (length y - r) (drop r y) ≡ drop r y = take-all (length y - r) (drop r y) (omega (arith, length-drop r y)) in
+        eZ ∙ ap₂ padd eL (eC ∙ ap (λ (m : List ℕ). padTo 64 (checkCells (p .b) r m)) whole) ∙ pad-sum 64 (take r y) _
+        ∙ ap (padTo 64)
+        (ap (padd (take r y)) (check-cells (p .b) r pos (drop r y) (omega (arith, v .r-most)) (drop-bytes r y h))
+        ∙ sym (remainder-feeds (p .b) r pos (drop r y) (take r y) (omega (arith, v .r-most)) low (take-bytes r y h) (drop-bytes r y h))
+        ∙ ap (remainder r g) (take-append-drop r y))
+
+    short-law : length y ≤ p .r → L ≡ padTo 64 (take (length y) y) → C ≡ padTo 64 (checkCells (p .b) (p .r) (take (length y - length y) (drop (length y) y)))
+        → Z ≡ padd L C → Z ≡ padTo 64 (remainder (p .r) (generator (p .b) (p .r)) y)
+    unfolding checkCells
+    short-law l eL eC eZ =
+        let r : ℕ = p .r in
+        let none : drop (length y) y ≡ [] = drop-of-length-le y (le-of-eq refl) in
+        let zeros : C ≡ replicate 64 0 =
+        eC ∙ ap (λ (m : List ℕ). padTo 64 (checkCells (p .b) r (take (length y - length y) m))) none
+        ∙ ap (λ (m : List ℕ). padTo 64 (checkCells (p .b) r m)) (take-all (length y - length y) [] zero-le)
+        ∙ ap (padTo 64) (check-cells (p .b) r (omega (arith, v .r-least)) [] (omega (arith, v .r-most)) tt)
+        ∙ unfold feeds in pad-zeros 64 r in
+        eZ ∙ ap₂ padd (eL ∙ ap (padTo 64) (take-all (length y) y (le-of-eq refl))) zeros ∙ padd-zeros (padTo 64 y) 64 (le-of-eq (sym (pad-length 64 y)))
+        ∙ sym (pad-more 64 (r - length y) y) ∙ ap (padTo 64) (sym (remainder-short (p .b) r y (omega (arith, v .r-most)) h l))
+
+    pub remainder-law : (k : ℕ) → k ≡ min (p .r) (length y) → L ≡ padTo 64 (take k y) → C ≡ padTo 64 (checkCells (p .b) (p .r) (take (length y - k) (drop k y)))
+        → Z ≡ padd L C → Z ≡ padTo 64 (remainder (p .r) (generator (p .b) (p .r)) y)
+    remainder-law k e eL eC eZ =
+        ⊎-elim
+        (λ l. let q : k ≡ length y = e ∙ min-eq-right (let m : length y ≤ p .r = omega arith in m) in short-law (omega arith) (rw q at eL) (rw q at eC) eZ)
+        (λ l. let q : k ≡ p .r = e ∙ min-eq-left l in long-law l (rw q at eL) (rw q at eC) eZ)
+        (lt-or-ge (length y) (p .r))
 
   rem-short : (y : List ℕ) → length (remainder (p .r) (generator (p .b) (p .r)) y) ≤ 64
   rem-short y = omega (arith, remainder-length (p .r) (p .b) y, v .r-most)
@@ -172,6 +204,59 @@ module _ (p : Profile) (m out : List ℕ) where
   unfolding writeFits
   block-wrong e h = second-wrong _ _ _ _ e h
 
+-- ---- the look
+
+module _ (p : Profile) (y : List ℕ) where
+  pub look-one : inRange p ≡ false → verdicts.BadProfile ≡ lookAnswer p y
+  unfolding lookAnswer
+  look-one e = refuse-one p _ _ _ _ e
+
+  pub look-two : inRange p ≡ true → (length y ≡ p .n → ⊥) → verdicts.WrongLength ≡ lookAnswer p y
+  unfolding lookAnswer
+  look-two v h = refuse-two p _ _ _ _ v (ne-eqb _ _ h)
+
+  pub look-rest : inRange p ≡ true → length y ≡ p .n → (a : Verdict) → a ≡ verdict p y → a ≡ lookAnswer p y
+  unfolding lookAnswer
+  look-rest v h a e = e ∙ accept p _ _ _ _ v (eq-eqb _ _ h)
+
+  -- the shifted remainder beside it
+  pub error-one : inRange p ≡ false → (E : List ℕ) → E ≡ replicate 64 0 → E ≡ lookError p y
+  unfolding lookError
+  error-one e E q = q ∙ refuse-one p _ _ _ _ e
+
+  pub error-two : inRange p ≡ true → (length y ≡ p .n → ⊥) → (E : List ℕ) → E ≡ replicate 64 0 → E ≡ lookError p y
+  unfolding lookError
+  error-two v h E q = q ∙ refuse-two p _ _ _ _ v (ne-eqb _ _ h)
+
+  pub error-rest : inRange p ≡ true → length y ≡ p .n → (E : List ℕ) → E ≡ padTo 64 (shiftedRemainder (p .b) (p .r) (verdictStart (verdict p y)) y) → E ≡ lookError p y
+  unfolding lookError
+  error-rest v h E q = q ∙ accept p _ _ _ _ v (eq-eqb _ _ h)
+
+  -- the shifted remainder at a start that is named
+  pub at-one : inRange p ≡ false → (s : ℕ) (E : List ℕ) → E ≡ replicate 64 0 → E ≡ shiftedAt p y s
+  unfolding shiftedAt
+  at-one e s E q = q ∙ refuse-one p _ _ _ _ e
+
+  pub at-two : inRange p ≡ true → (length y ≡ p .n → ⊥) → (s : ℕ) (E : List ℕ) → E ≡ replicate 64 0 → E ≡ shiftedAt p y s
+  unfolding shiftedAt
+  at-two v h s E q = q ∙ refuse-two p _ _ _ _ v (ne-eqb _ _ h)
+
+  module _ (v : inRange p ≡ true) (h : length y ≡ p .n) (s : ℕ) (E : List ℕ) where
+    pub at-past : p .n < s → E ≡ replicate 64 0 → E ≡ shiftedAt p y s
+    unfolding shiftedAt
+    at-past l q =
+        q ∙ ap (λ (b : Bool). pick b (padTo 64 (shiftedRemainder (p .b) (p .r) s y)) (replicate 64 0)) (sym (lt-leb s (p .n) l)) ∙ accept p _ _ _ _ v (eq-eqb _ _ h)
+
+    pub at-rest : s ≤ p .n → E ≡ padTo 64 (shiftedRemainder (p .b) (p .r) s y) → E ≡ shiftedAt p y s
+    unfolding shiftedAt
+    at-rest l q =
+        q ∙ ap (λ (b : Bool). pick b (padTo 64 (shiftedRemainder (p .b) (p .r) s y)) (replicate 64 0)) (sym (le-leb s (p .n) l)) ∙ accept p _ _ _ _ v (eq-eqb _ _ h)
+
+-- the verdict is judged from the register of the remainder
+pub verdict-from : (p : Profile) (y R : List ℕ) (a : Verdict) → R ≡ remainder (p .r) (generator (p .b) (p .r)) y → a ≡ judged p R → a ≡ verdict p y
+unfolding verdict
+verdict-from p y R a e q = q ∙ ap (judged p) e
+
 -- ---- the corrector
 
 -- the test of the lengths reads n of the profile
@@ -206,6 +291,14 @@ module _ (p : Profile) (y out : List ℕ) where
   pub read-wrong : (length y ≡ p .n → ⊥) → correctFits p y out ≡ false
   unfolding correctFits
   read-wrong h = first-wrong _ (length out) _ (p .n) h
+
+  pub read-right : correctFits p y out ≡ true → length y ≡ p .n
+  unfolding correctFits
+  read-right w = eqb-true _ _ (both-true (eqb (length y) (p .n)) (eqb (length out) (p .n)) w .0)
+
+  pub second-buffer-wrong : (length out ≡ p .n → ⊥) → correctFits p y out ≡ false
+  unfolding correctFits
+  second-buffer-wrong h = ap (both (eqb (length y) (p .n))) (ne-eqb _ _ h) ∙ both-no (eqb (length y) (p .n))
 
   pub out-wrong : length y ≡ p .n → (length out ≡ p .n → ⊥) → correctFits p y out ≡ false
   unfolding correctFits

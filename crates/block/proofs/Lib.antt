@@ -6,5 +6,8 @@ pub mod Steps
 pub mod Entries
 pub mod Answers
 pub mod Outcome
+pub mod Filling
+pub mod Within
 pub mod Copies
 pub mod Promises
+pub mod LookAndFill

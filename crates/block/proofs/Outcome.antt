@@ -1,79 +1,112 @@
--- A clean block is copied. Of another, what the search's state says is the verdict, and the codeword's cells are the read cells plus the kept shifted
--- remainder.
-use mathlib.Core.Path.{_≡_, sym, ap, _∙_, subst}
+-- What the search's state says is the verdict; and the shifted remainder in a register, by steps back from the remainder or in two parts.
+use mathlib.Core.Path.{_≡_, sym, ap, ap₂, _∙_}
 use mathlib.Core.Bool.{true, false}
 use mathlib.Core.List.{List}
-use Prim.Native.Nat.{ℕ, _+_, _≤_, _<_, zero-le}
+use Prim.Native.Nat.{ℕ, _-_, _≤_, _<_}
 use native.Mathlib.Omega.{arith}
-use lib.ListN.{length, take}
+use lib.Dec.{eqb}
+use lib.ListN.{length, take, drop, replicate, length-drop}
+use lib.Seq.{length-take-le, take-all}
 use mathlib.Core.Logic.{_≢_}
 use borrow.Author.Tests.{lt-ltb, le-ltb, eq-eqb, ne-eqb}
+use Rattle.code.specs.Run.{ZeroFrom, backSteps, shiftedRemainder}
 use Rattle.code.specs.Code.{generator, remainder}
-use Rattle.code.specs.Run.{backSteps, shiftedRemainder, addedAt}
-use Rattle.code.specs.Search.{Best, extents, scanned}
+use Rattle.code.specs.Search.{extent}
 use Rattle.code.proofs.Generator.{generator-length}
 use Rattle.code.proofs.Division.{remainder-length}
+use Rattle.code.specs.Poly.{padd}
 use Rattle.code.proofs.Shifted.{backSteps-length}
-use Rattle.register.specs.Words.{cells}
+use Rattle.code.proofs.Split.{backFed, shifted-parts}
+use Rattle.register.specs.Register.{backGenerator, feedsBack}
+use Rattle.register.proofs.Backward.{divided-back}
+use Rattle.lists.specs.Bytes.{Bytes}
 use Rattle.words.specs.Cells.{padTo}
-use Rattle.words.proofs.Pad.{take-pad}
+use Rattle.words.proofs.Pad.{take-pad, pad-sum}
+use Rattle.words.proofs.LastCell.{extent-pad}
+use Rattle.register.specs.Words.{cells}
+use Rattle.register.specs.declared.Register.{Register}
+use Rattle.register.proofs.Cells.{cells-length}
 use Rattle.profile.specs.Profile.{InRange}
-use Rattle.block.specs.Block.{isClean, decided, verdict, filled}
-use Rattle.block.specs.Found.{bestOf, Searched}
-use Rattle.block.specs.Runs.{Cells}
+use Rattle.block.specs.Block.{decided, judged}
+use Rattle.block.specs.Found.{bestOf, Searched, JudgedFrom}
 use Rattle.profile.specs.declared.Profile.{Profile}
 use Rattle.block.specs.declared.Found.{Found}
 use Rattle.block.specs.declared.Verdict.the-variants.{Uncorrectable, Ambiguous, Corrected}
-use Rattle.block.proofs.Shortest.{best, scan, clean-verdict, wrong-verdict}
-use Rattle.block.proofs.Verdicts.{added-none}
+use Rattle.block.proofs.Steps.{low-cells-of}
 
--- a clean block is copied
-pub outcome-clean : (p : Profile) (y out o : List ℕ) → InRange p → Cells p y → isClean (p .b) (p .r) y ≡ true → o ≡ y
-    → (Corrected 0 0 ≡ verdict p y) × (o ≡ filled p y out (verdict p y))
-unfolding filled
-outcome-clean p y out o v h t e =
-    let q : Corrected 0 0 ≡ verdict p y = sym (clean-verdict p y v h t) in
-    (q, e ∙ sym (added-none y 0 (shiftedRemainder (p .b) (p .r) 0 y) zero-le) ∙ ap (filled p y out) q)
+-- ---- the verdict, from a register of which the lowest r cells are the remainder
 
-module _ (p : Profile) (y out : List ℕ) (v : InRange p) (h : Cells p y) (wrong : isClean (p .b) (p .r) y ≡ false)
-    (R : List ℕ) (eR : R ≡ remainder (p .r) (generator (p .b) (p .r)) y) (k : Found) (s : Searched p R k) where
-  state : bestOf k ≡ best p y v h
-  state = s .best ∙ ap (λ (u : List ℕ). scanned (extents (generator (p .b) (p .r)) u) (p .n) (p .limit) (p .n)) eR
+module _ (p : Profile) (v : InRange p) (rest : Register) (z : ZeroFrom (p .r) (cells rest)) where
+  abbrev C : List ℕ
+  C = cells rest
 
-  says : verdict p y ≡ decided (p .limit) (bestOf k)
-  says = wrong-verdict p y v h wrong ∙ ap (decided (p .limit)) (sym state)
+  abbrev R : List ℕ
+  R = take (p .r) C
 
-  pub outcome-long : p .limit < k .size → (Uncorrectable ≡ verdict p y) × (out ≡ filled p y out (verdict p y))
-  unfolding decided filled
-  outcome-long l =
-      let e : Uncorrectable ≡ verdict p y = sym (says ∙ rw (lt-ltb (p .limit) (k .size) l)) in
-      (e, ap (filled p y out) e)
+  same-extent : extent C ≡ extent R
+  same-extent =
+      let lR : length R ≡ p .r = length-take-le (p .r) C (omega (arith, v .r-most, cells-length rest)) in
+      ap extent (low-cells-of (p .r) C (cells-length rest) (v .r-most) z) ∙ extent-pad 64 R (omega (arith, v .r-most))
 
-  module _ (l : k .size ≤ p .limit) where
-    pub outcome-twice : k .again ≡ 1 → (Ambiguous ≡ verdict p y) × (out ≡ filled p y out (verdict p y))
-    unfolding decided filled
-    outcome-twice a =
-        let e : Ambiguous ≡ verdict p y = sym (says ∙ rw (le-ltb (p .limit) (k .size) l, eq-eqb (k .again) 1 a)) in
-        (e, ap (filled p y out) e)
+  -- at start 0 the shifted remainder is the remainder
+  unshifted : C ≡ padTo 64 (backSteps 0 (generator (p .b) (p .r)) R)
+  unfolding backSteps
+  unshifted = low-cells-of (p .r) C (cells-length rest) (v .r-most) z
 
-    -- the run ends within the block
-    pub outcome-fits : (k .start + k .size ≤ p .n) × (k .size ≤ 64)
-    outcome-fits =
-        let q : best p y v h .start + best p y v h .size ≤ p .n = scan p y v h .found (subst (λ (b : Best). b .size ≤ p .limit) state l) .1 in
-        (subst (λ (b : Best). b .start + b .size ≤ p .n) (sym state) q, omega (arith, v .limit-below, v .r-most))
+  pub judged-clean : eqb (extent C) 0 ≡ true → JudgedFrom p R (record { verdict = Corrected 0 0; error = rest })
+  unfolding judged
+  judged-clean t = record { verdict = rw (← same-extent, t); error = unshifted }
 
-    error-cells : (C : List ℕ) → C ≡ cells (k .error) → take (k .size) C ≡ take (k .size) (shiftedRemainder (p .b) (p .r) (k .start) y)
-    unfolding shiftedRemainder
-    error-cells C eC =
-        let G : List ℕ = generator (p .b) (p .r) in
-        let S : List ℕ = backSteps (k .start) G (remainder (p .r) G y) in
-        let lS : length S ≡ p .r = backSteps-length (k .start) (p .r) G (remainder (p .r) G y) (generator-length (p .b) (p .r)) (remainder-length (p .r) (p .b) y) in
-        ap (take (k .size)) (eC ∙ s .error ∙ ap (λ (u : List ℕ). padTo 64 (backSteps (k .start) G u)) eR)
-        ∙ take-pad (k .size) 64 S (omega (arith, v .limit-below)) (omega (arith, v .r-most))
+  module _ (wrong : eqb (extent C) 0 ≡ false) (k : Found) (s : Searched p R k) where
+    says : judged p R ≡ decided (p .limit) (bestOf k)
+    unfolding judged
+    says = rw (← same-extent, wrong) (ap (decided (p .limit)) (sym (s .best)))
 
-    pub outcome-once : k .again ≢ 1 → (C o : List ℕ) → C ≡ cells (k .error) → o ≡ addedAt (k .start) (take (k .size) C) y
-        → (Corrected (k .start) (k .size) ≡ verdict p y) × (o ≡ filled p y out (verdict p y))
-    unfolding decided filled
-    outcome-once a C o eC eo =
-        let e : Corrected (k .start) (k .size) ≡ verdict p y = sym (says ∙ rw (le-ltb (p .limit) (k .size) l, ne-eqb (k .again) 1 a)) in
-        (e, eo ∙ ap (λ (u : List ℕ). addedAt (k .start) u y) (error-cells C eC) ∙ ap (filled p y out) e)
+    pub judged-long : p .limit < k .size → JudgedFrom p R (record { verdict = Uncorrectable; error = rest })
+    unfolding decided
+    judged-long h = record { verdict = sym (says ∙ rw (lt-ltb (p .limit) (k .size) h)); error = unshifted }
+
+    pub judged-twice : k .size ≤ p .limit → k .again ≡ 1 → JudgedFrom p R (record { verdict = Ambiguous; error = rest })
+    unfolding decided
+    judged-twice h a = record { verdict = sym (says ∙ rw (le-ltb (p .limit) (k .size) h, eq-eqb (k .again) 1 a)); error = unshifted }
+
+    pub judged-once : k .size ≤ p .limit → k .again ≢ 1 → JudgedFrom p R (record { verdict = Corrected (k .start) (k .size); error = k .error })
+    unfolding decided
+    judged-once h a = record { verdict = sym (says ∙ rw (le-ltb (p .limit) (k .size) h, ne-eqb (k .again) 1 a)); error = s .error }
+
+-- ---- a register E of which the lowest r cells are the shifted remainder at s
+
+module _ (p : Profile) (v : InRange p) (y : List ℕ) (s : ℕ) where
+  abbrev S : List ℕ
+  S = shiftedRemainder (p .b) (p .r) s y
+
+  shifted-length : length S ≡ p .r
+  unfolding shiftedRemainder
+  shifted-length = backSteps-length s (p .r) _ _ (generator-length (p .b) (p .r)) (remainder-length (p .r) (p .b) y)
+
+  pub shifted-extent : (E : List ℕ) → E ≡ padTo 64 S → extent E ≡ extent S
+  shifted-extent E e = ap extent e ∙ extent-pad 64 S (omega (arith, shifted-length, v .r-most))
+
+  pub shifted-take : (f : ℕ) (E : List ℕ) → E ≡ padTo 64 S → f < p .r → take f E ≡ take f S
+  shifted-take f E e l = ap (take f) e ∙ take-pad f 64 S (omega (arith, shifted-length)) (omega (arith, shifted-length, v .r-most))
+
+-- ---- the shifted remainder
+
+-- from the register of the remainder, as the search has it
+pub shifted-from : (p : Profile) (y R E : List ℕ) (s : ℕ) → R ≡ remainder (p .r) (generator (p .b) (p .r)) y → E ≡ padTo 64 (backSteps s (generator (p .b) (p .r)) R)
+    → E ≡ padTo 64 (shiftedRemainder (p .b) (p .r) s y)
+unfolding shiftedRemainder
+shifted-from p y R E s eR e = e ∙ ap (λ (u : List ℕ). padTo 64 (backSteps s (generator (p .b) (p .r)) u)) eR
+
+-- and from its two parts: the cells above and those below
+pub shifted-law : (p : Profile) (v : InRange p) (y : List ℕ) (s : ℕ) → Bytes y → s ≤ length y → (G B A Z : List ℕ)
+    → G ≡ padTo 64 (backGenerator (generator (p .b) (p .r)))
+    → B ≡ feedsBack G (replicate 64 0) (take s y)
+    → A ≡ padTo 64 (remainder (p .r) (generator (p .b) (p .r)) (take (length y - s) (drop s y)))
+    → Z ≡ padd A B → Z ≡ padTo 64 (shiftedRemainder (p .b) (p .r) s y)
+shifted-law p v y s hy l G B A Z eG eB eA eZ =
+    let g : List ℕ = generator (p .b) (p .r) in
+    let whole : take (length y - s) (drop s y) ≡ drop s y = take-all (length y - s) (drop s y) (omega (arith, length-drop s y)) in
+    let low : B ≡ padTo 64 (backFed g (replicate (p .r) 0) (take s y)) = divided-back (p .b) (p .r) (omega (arith, v .r-least)) (v .r-most) G B (take s y) eG eB in
+    eZ ∙ ap₂ padd (eA ∙ ap (λ (u : List ℕ). padTo 64 (remainder (p .r) g u)) whole) low ∙ pad-sum 64 _ _
+    ∙ ap (padTo 64) (shifted-parts (p .b) (p .r) s y (omega (arith, v .r-least)) (omega (arith, v .r-most)) hy l)

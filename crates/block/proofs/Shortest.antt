@@ -60,7 +60,7 @@ module _ (p : Profile) (y : List ℕ) (v : InRange p) (h : Cells p y) where
   abbrev pub best : Best
   best = scanned e (p .n) (p .limit) (p .n)
 
-  e-is : (s : ℕ) → e s ≡ extent (R s)
+  pub e-is : (s : ℕ) → e s ≡ extent (R s)
   unfolding extents shiftedRemainder
   e-is s = refl
 

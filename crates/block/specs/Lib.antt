@@ -2,4 +2,5 @@ pub mod Block
 pub mod Numbers
 pub mod Runs
 pub mod Promises
+pub mod LookAndFill
 pub mod Found

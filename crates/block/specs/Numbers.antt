@@ -1,4 +1,4 @@
--- The documents' number, place and values of each answer of an entry on a block (E5; document 02, Note 1). The promises are stated through these, and the
+-- The documents' number, place and values of each answer of an entry on a block (E5; document 02, Notes 1 and 3). The promises are stated through these, and the
 -- functions that hand them out have them as contracts. A lone block's refusal has place 0 ("else 0"), and a value that an answer does not have is 0.
 use Prim.Native.Nat.{ℕ}
 use Rattle.block.specs.declared.Verdict.{Verdict}
@@ -7,6 +7,8 @@ use Rattle.block.specs.declared.Written.{Written}
 use Rattle.block.specs.declared.Written.the-variants as writes
 use Rattle.block.specs.declared.Checked.{Checked}
 use Rattle.block.specs.declared.Checked.the-variants as checks
+use Rattle.block.specs.declared.Filled.{Filled}
+use Rattle.block.specs.declared.Filled.the-variants as fills
 
 -- ---- correcting: 1 misprint, 2 wrong frame, 3 torn, 4 tied, 11 spotted, or 0 for a block that is mended or clean
 
@@ -87,3 +89,15 @@ checkedClean checks.Clean = 1
 checkedClean checks.NotClean = 0
 checkedClean checks.BadProfile = 0
 checkedClean checks.WrongLength = 0
+
+-- ---- filling: 1 misprint, 2 wrong frame, 12 bad span, 3 torn, which "speaks of that one run only", or 0
+
+abbrev pub filledNumber : Filled → ℕ
+filledNumber fills.BadProfile = 1
+filledNumber fills.WrongLength = 2
+filledNumber fills.BadSpan = 12
+filledNumber fills.NoCodeword = 3
+filledNumber fills.Done = 0
+
+abbrev pub filledPlace : Filled → ℕ
+filledPlace answer = 0

@@ -1,9 +1,10 @@
 // The documents' number, place and values of each answer. Each function is one match, and its contract is the definition of specs/Numbers.antt.
 use crate::Checked;
+use crate::Filled;
 use crate::Verdict;
 use crate::Written;
 ghost use mathlib.Core.Path.{_≡_};
-ghost use Rattle.block.specs.Numbers.{verdictNumber, verdictPlace, verdictStart, verdictLength, verdictCount, verdictLowest, writtenNumber, writtenPlace, checkedNumber, checkedPlace, checkedClean};
+ghost use Rattle.block.specs.Numbers.{verdictNumber, verdictPlace, verdictStart, verdictLength, verdictCount, verdictLowest, writtenNumber, writtenPlace, checkedNumber, checkedPlace, checkedClean, filledNumber, filledPlace};
 
 impl Verdict {
     /// 1 to 4, or 11, or 0 for a corrected block.
@@ -157,5 +158,27 @@ impl Checked {
             Checked::BadProfile => 0,
             Checked::WrongLength => 0,
         }
+    }
+}
+
+impl Filled {
+    /// 1, 2, 12, 3, or 0 for a run that is filled.
+    pub fn number(self) -> usize
+        ensures { λ r. ⌜ r ≡ filledNumber self ⌝ }
+    {
+        match self {
+            Filled::BadProfile => 1,
+            Filled::WrongLength => 2,
+            Filled::BadSpan => 12,
+            Filled::NoCodeword => 3,
+            Filled::Done => 0,
+        }
+    }
+
+    /// The place of a lone block's refusal is 0.
+    pub fn place(self) -> usize
+        ensures { λ r. ⌜ r ≡ filledPlace self ⌝ }
+    {
+        0
     }
 }

@@ -25,7 +25,7 @@ generator-of-requires : tie.Need-generator-of-requires
 generator-of-requires c κs = in-range _ .0 (valid c)
 
 remainder-of-requires : tie.Need-remainder-of-requires
-remainder-of-requires c κs = (in-range _ .0 (valid (c .before)), (c .generator-of .ensures, c .before .if2 .left))
+remainder-of-requires c κs = (in-range _ .0 (valid (c .before)), c .generator-of .ensures)
 
 is-zero-requires : tie.Need-is-zero-requires
 is-zero-requires c κs = search needs

@@ -1,18 +1,17 @@
--- `block::correct` meets its contract: each return is a case of the definitions; a clean block is told by its register.
+-- `block::correct` meets its contract: a look that refuses is the answer, and what the fill of an accepted one leaves is the codeword.
 use borrow.Author.Needs.{needs}
 use borrow.Author.Tests.{not-true, not-false}
-use Prim.Native.Nat.{ℕ}
 use native.Mathlib.Omega.{arith}
-use mathlib.Core.Path.{_≡_, sym, _∙_}
-use mathlib.Core.Bool.{true}
+use mathlib.Core.Path.{_≡_, sym, ap, ap₂, _∙_}
 use mathlib.Core.List.{List}
+use Prim.Native.Nat.{ℕ}
+use Rattle.register.specs.Words.{cells}
+use Rattle.lists.specs.Bytes.{Bytes}
 use Rattle.lists.proofs.Bytes.{bytes-of}
-use Rattle.profile.specs.Profile.{inRange}
-use Rattle.block.specs.Block.{correctFits}
-use Rattle.block.specs.Runs.{Cells}
-use Rattle.profile.proofs.Ranges.{in-range}
-use Rattle.block.proofs.Entries.{zero-clean, correct-one, correct-two, correct-rest, correct-fits, read-wrong, out-wrong}
-use Rattle.block.proofs.Outcome.{outcome-clean}
+use Rattle.block.specs.Block.{fillByLeaves}
+use Rattle.block.specs.Numbers.{verdictNumber, verdictStart, verdictLength}
+use Rattle.block.proofs.Entries.{correct-one, correct-two, second-buffer-wrong}
+use Rattle.block.proofs.LookAndFill.{looks-then-fills, fill-by-look}
 use Rattle.block.proofs.correct.Statement.{statement}
 use Rattle.block.proofs.correct.Tie as tie
 
@@ -23,69 +22,52 @@ returns : tie.Need-returns
 returns c = correct-one _ _ _ (sym (c .before .in-range .ensures) ∙ not-true _ (c .if1 .taken))
 
 returns-2 : tie.Need-returns-2
-returns-2 c = correct-two _ _ _ (sym (c .before .before .before .in-range .ensures) ∙ not-false _ (c .before .before .if1 .left)) (read-wrong _ _ _ (c .if2 .taken))
+returns-2 c =
+    correct-two _ _ _ (sym (c .before .before .before .in-range .ensures) ∙ not-false _ (c .before .before .if1 .left)) (second-buffer-wrong _ _ _ (c .if2 .taken))
+
+judge-requires : tie.Need-judge-requires
+judge-requires c κs = search needs
+
+number-requires : tie.Need-number-requires
+number-requires c κs = search needs
 
 returns-3 : tie.Need-returns-3
 returns-3 c =
-    correct-two _ _ _ (sym (c .before .before .before .before .before .in-range .ensures) ∙ not-false _ (c .before .before .before .before .if1 .left)) (out-wrong _ _ _ (c .before .before .if2 .left) (c .if3 .taken))
+    let a = c .before .before .before .before .before .before .before .before .before .args in
+    let y : List ℕ = a .read .now in
+    let b : Bytes y = bytes-of y (λ i. omega (arith, c .before .before .before .before .before .before .before .before .shared-slice-known .given i)) in
+    let z = looks-then-fills (a .p) y (a .out .now) b (c .before .before .before .if2 .left) in
+    let e = c .before .before .judge .ensures .0 in
+    (e ∙ z .answer, sym (z .refused (λ q. c .if3 .taken (c .before .number .ensures ∙ ap verdictNumber e ∙ q))))
 
--- past the refusals
-valid : (c : tie.Else3) → inRange (c .before .before .before .before .before .before .before .before .args .p) ≡ true
-valid c = sym (c .before .before .before .before .before .in-range .ensures) ∙ not-false _ (c .before .before .before .before .if1 .left)
+start-requires : tie.Need-start-requires
+start-requires c κs = search needs
 
-fitting : (c : tie.Else3) → correctFits (c .before .before .before .before .before .before .before .before .args .p) (c .before .before .before .before .before .before .before .before .args .read .now) (c .before .before .before .before .before .before .before .before .args .out .now) ≡ true
-fitting c = correct-fits _ _ _ (c .before .before .if2 .left) (c .if3 .left)
+length-requires : tie.Need-length-requires
+length-requires c κs = search needs
 
-generator-of-requires : tie.Need-generator-of-requires
-generator-of-requires c κs = in-range _ .0 (valid c)
-
-remainder-of-requires : tie.Need-remainder-of-requires
-remainder-of-requires c κs = (in-range _ .0 (valid (c .before)), (c .generator-of .ensures, c .before .before .before .if2 .left))
-
-is-zero-requires : tie.Need-is-zero-requires
-is-zero-requires c κs = search needs
-
-copy-cells-requires : tie.Need-copy-cells-requires
-copy-cells-requires c κs = search needs
+fill-by-requires : tie.Need-fill-by-requires
+fill-by-requires c κs = search needs
 
 same-length : tie.Need-same-length
 same-length c = search needs
 
 returns-4 : tie.Need-returns-4
 returns-4 c =
-    let e = c .before .before .before .before .before .before .before .before in
-    let s = e .before .before .before .before .before .before .before .before in
-    let y : List ℕ = s .args .read .now in
-    let v = in-range _ .0 (valid e) in
-    let h : Cells (s .args .p) y = record { count = e .before .before .if2 .left; bytes = bytes-of y (λ i. omega (arith, e .before .before .before .before .before .before .before .shared-slice-known .given i)) } in
-    let t = sym (zero-clean _ v y _ _ (c .before .before .before .before .before .before .remainder-of .ensures) (c .before .before .before .before .before .is-zero .ensures)) ∙ c .before .before .before .before .if4 .taken in
-    let o = outcome-clean (s .args .p) y (s .args .out .now) _ v h t (c .before .before .copy-cells .ensures) in
-    correct-rest _ _ _ (valid e) (fitting e) _ _ (o .0) (o .1)
-
-correct-errors-requires : tie.Need-correct-errors-requires
-correct-errors-requires c κs =
-    let e = c .before .before .before .before .before in
-    let v = in-range _ .0 (valid e) in (
-      v,
-      (
-        c .before .before .before .before .generator-of .ensures,
-        (
-          (e .before .before .if2 .left, e .if3 .left),
-          (
-            c .before .before .before .remainder-of .ensures,
-            sym (zero-clean _ v _ _ _ (c .before .before .before .remainder-of .ensures) (c .before .before .is-zero .ensures)) ∙ c .before .if4 .left,
-          ),
-        ),
-      ),
+    let a = c .before .before .before .before .before .before .before .before .before .before .before .before .before .before .before .args in
+    let y : List ℕ = a .read .now in
+    let b : Bytes y = bytes-of y (λ i. omega (arith, c .before .before .before .before .before .before .before .before .before .before .before .before .before .before .shared-slice-known .given i)) in
+    let l = c .before .before .before .before .before .before .before .before .before .if2 .left in
+    let e = c .before .before .before .before .before .before .before .before .judge .ensures in
+    let E : List ℕ = cells (c .before .before .before .before .before .before .before .before .judge .result .error) in
+    let q = ap verdictNumber (sym (e .0)) ∙ sym (c .before .before .before .before .before .before .before .number .ensures) ∙ c .before .before .before .before .before .before .if3 .left in
+    let s = c .before .before .before .before .before .start .ensures ∙ ap verdictStart (e .0) in
+    let f = c .before .before .before .before .length .ensures ∙ ap verdictLength (e .0) in (
+      e .0 ∙ looks-then-fills (a .p) y (a .out .now) b l .answer,
+      c .before .before .fill-by .ensures .1
+          ∙ ap₂ (λ (i j : ℕ). fillByLeaves (a .p) y i j E (a .out .now)) s f
+          ∙ fill-by-look (a .p) y (a .out .now) E b l (e .1) q,
     )
-
-same-length-2 : tie.Need-same-length-2
-same-length-2 c = search needs
-
-returns-5 : tie.Need-returns-5
-returns-5 c =
-    let e = c .before .before .before .before .before .before .before .before in
-    correct-rest _ _ _ (valid e) (fitting e) _ _ (c .before .before .correct-errors .ensures .0) (c .before .before .correct-errors .ensures .1)
 
 pub correct-spec : {M : Type 1} → statement M
 correct-spec =
@@ -94,13 +76,11 @@ correct-spec =
     in-range-requires
     returns
     returns-2
+    judge-requires
+    number-requires
     returns-3
-    generator-of-requires
-    remainder-of-requires
-    is-zero-requires
-    copy-cells-requires
+    start-requires
+    length-requires
+    fill-by-requires
     same-length
-    returns-4
-    correct-errors-requires
-    same-length-2
-    returns-5)
+    returns-4)

@@ -19,7 +19,7 @@ returns c =
     let m : List ℕ = c .before .before .before .args .message .now in
     let s = c .before .before .before in
     checks-law _ (s .pre .0) m _ _ _ (bytes-of m (λ i. omega (arith, c .before .before .shared-slice-known .given i)))
-    (s .pre .1 .0) (c .before .divide .ensures) (c .lowered .ensures)
+    (s .pre .1) (c .before .divide .ensures) (c .lowered .ensures)
 
 pub message-checks-spec : {M : Type 1} → statement M
 message-checks-spec = tie.close (tie.spec divide-requires lowered-requires returns)

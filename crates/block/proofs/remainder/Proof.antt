@@ -33,7 +33,7 @@ generator-of-requires : tie.Need-generator-of-requires
 generator-of-requires c κs = in-range _ .0 (valid c)
 
 remainder-of-requires : tie.Need-remainder-of-requires
-remainder-of-requires c κs = (in-range _ .0 (valid (c .before)), (c .generator-of .ensures, c .before .if2 .left))
+remainder-of-requires c κs = (in-range _ .0 (valid (c .before)), c .generator-of .ensures)
 
 returns-3 : tie.Need-returns-3
 returns-3 c = remainder-rest _ _ (valid (c .before .before)) (c .before .before .if2 .left) _ (c .remainder-of .ensures)

@@ -40,7 +40,7 @@ generator-of-requires : tie.Need-generator-of-requires
 generator-of-requires c κs = in-range _ .0 (valid c)
 
 message-checks-requires : tie.Need-message-checks-requires
-message-checks-requires c κs = (in-range _ .0 (valid (c .before)), (c .generator-of .ensures, sized (c .before)))
+message-checks-requires c κs = (in-range _ .0 (valid (c .before)), c .generator-of .ensures)
 
 low-cells-requires : tie.Need-low-cells-requires
 low-cells-requires c κs = search needs

@@ -4,8 +4,8 @@ use Prim.Native.Nat.{_+_, _-_}
 use native.Mathlib.Omega.{arith}
 use mathlib.Core.Path.{refl}
 use Rattle.block.proofs.Steps.{placed-law}
-use Rattle.block.proofs.fill.place.Statement.{statement}
-use Rattle.block.proofs.fill.place.Tie as tie
+use Rattle.block.proofs.lay.place.Statement.{statement}
+use Rattle.block.proofs.lay.place.Tie as tie
 
 add-end : tie.Need-add-end
 add-end c = search needs

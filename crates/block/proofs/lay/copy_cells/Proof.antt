@@ -5,8 +5,8 @@ use mathlib.Core.Path.{_≡_, refl, ap, _∙_}
 use mathlib.Core.List.{List, _++_}
 use lib.ListN.{length, getD, set, take, drop, length-set}
 use Rattle.lists.proofs.Fill.{fill-more, fill-all}
-use Rattle.block.proofs.fill.copy_cells.Statement.{statement}
-use Rattle.block.proofs.fill.copy_cells.Tie as tie
+use Rattle.block.proofs.lay.copy_cells.Statement.{statement}
+use Rattle.block.proofs.lay.copy_cells.Tie as tie
 
 abbrev Inv-loop : tie.InvT-loop
 Inv-loop from to₀ i₀ to i = (i ≤ length to₀) × (length to ≡ length to₀) × (to ≡ take i from ++ drop i to₀)

@@ -8,8 +8,8 @@ use lib.ListN.{length, getD, set, take, drop, length-set}
 use Rattle.lists.proofs.Fill.{fill-more, fill-old, fill-all}
 use Rattle.code.specs.Poly.{padd}
 use Rattle.block.proofs.Steps.{sum-length, sum-cell}
-use Rattle.block.proofs.fill.add_error.Statement.{statement}
-use Rattle.block.proofs.fill.add_error.Tie as tie
+use Rattle.block.proofs.lay.add_error.Statement.{statement}
+use Rattle.block.proofs.lay.add_error.Tie as tie
 
 abbrev sum : List ℕ → List ℕ → List ℕ
 sum part error = padd part (take (length part) error)

@@ -4,8 +4,8 @@ use native.Mathlib.Omega.{arith}
 use mathlib.Core.Path.{sym}
 use lib.Seq.{length-take-le}
 use Rattle.block.proofs.Copies.{laid-law}
-use Rattle.block.proofs.fill.lay_out.Statement.{statement}
-use Rattle.block.proofs.fill.lay_out.Tie as tie
+use Rattle.block.proofs.lay.lay_out.Statement.{statement}
+use Rattle.block.proofs.lay.lay_out.Tie as tie
 
 array-share-prefix-checks : tie.Need-array-share-prefix-checks
 array-share-prefix-checks c = search needs
