@@ -5,6 +5,7 @@ pub mod Differ
 pub mod Modes
 pub mod Reader
 pub mod Theorems
+pub mod Looks
 pub mod Refusals
 pub mod Runs
 pub mod Promise

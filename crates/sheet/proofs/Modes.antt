@@ -5,7 +5,6 @@ use mathlib.Core.Logic.{_↔_, _≢_, _⊎_, inl, inr, ⊎-elim}
 use mathlib.Core.List.{List}
 use Prim.Native.Nat.{ℕ, _+_}
 use native.Mathlib.Omega.{arith}
-use lib.ListN.{length}
 use Rattle.code.specs.Code.{distance}
 use Rattle.code.proofs.Distance.{distance-self, distance-same}
 use Rattle.profile.specs.Profile.{InRange}
@@ -22,11 +21,9 @@ use Rattle.sheet.specs.declared.Mode.the-variants.{Burst, Spots}
 use Rattle.block.proofs.Shortest.{empty-run, word-clean}
 use Rattle.block.proofs.NumberLaws.{verdict-of, verdict-0, verdict-late}
 use Rattle.block.proofs.Verdicts.{clean-one, verdict-none, verdict-two, verdict-one}
-use Rattle.block.proofs.Answers.{block-answer, block-leaves}
 use Rattle.spots.proofs.Verdicts.{spot-none, spot-one, spot-near}
-use Rattle.spots.proofs.Answers.{spot-of, spot-late, spot-answer, spot-leaves}
+use Rattle.spots.proofs.Answers.{spot-of, spot-late}
 use Rattle.sheet.specs.Modes.{verdictIn, wordIn, GoesTo, BlockRefusedBy}
-use Rattle.sheet.specs.Steps.{answerIn, leavesIn}
 
 -- the law on the modes
 module _ (mode : Mode) (p : Profile) (y : List ℕ) where
@@ -115,16 +112,6 @@ block-law Spots p y v h = spot-law p y v h
 pub late-in : (mode : Mode) (p : Profile) (y : List ℕ) → (verdictNumber (verdictIn mode p y) ≢ 1) × (verdictNumber (verdictIn mode p y) ≢ 2)
 late-in Burst p y = verdict-late p y
 late-in Spots p y = spot-late p y
-
--- it is what the corrector of the mode answers, and the codeword what it leaves
-module _ (p : Profile) (v : InRange p) (y : List ℕ) (h : length y ≡ p .n) (out : List ℕ) (e : length out ≡ p .n) where
-  pub answer-in : (mode : Mode) → answerIn mode p y out ≡ verdictIn mode p y
-  answer-in Burst = block-answer p v y h out e
-  answer-in Spots = spot-answer p v y h out e
-
-  pub leaves-in : (mode : Mode) → verdictNumber (verdictIn mode p y) ≡ 0 → leavesIn mode p y out ≡ wordIn mode p y
-  leaves-in Burst t = block-leaves p v y h out e t
-  leaves-in Spots t = spot-leaves p v y h out e t
 
 -- a block goes to a codeword
 pub word-of : (mode : Mode) (p : Profile) (y c : List ℕ) → GoesTo mode p y c → Word p c

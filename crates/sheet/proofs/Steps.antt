@@ -1,5 +1,5 @@
 -- One law for each turn of the writer's and the reader's loops over the blocks, from what the calls in it leave.
-use mathlib.Core.Path.{_≡_, refl, sym, ap, ap₂, _∙_}
+use mathlib.Core.Path.{_≡_, refl, sym, ap, ap₂, subst, _∙_}
 use mathlib.Core.Logic.{⊎-elim}
 use mathlib.Core.Bool.{true, false}
 use mathlib.Core.List.{List, _++_}
@@ -16,34 +16,73 @@ use Rattle.lists.proofs.Fill.{fill-all}
 use Rattle.lists.proofs.Test.{true-or-false, true-false}
 use Rattle.lists.specs.Bytes.{Bytes}
 use Rattle.profile.specs.Profile.{InRange, messageLength}
-use Rattle.block.specs.Block.{encode}
-use Rattle.block.specs.Numbers.{verdictNumber, verdictLength, verdictCount}
+use Rattle.block.specs.Block.{encode, lookAnswer, lookError, fillByLeaves}
+use Rattle.block.specs.Numbers.{verdictNumber, verdictStart, verdictLength, verdictCount}
+use Rattle.block.specs.Runs.{Cells}
+use Rattle.block.proofs.NumberLaws.{verdict-0}
+use Rattle.block.proofs.Answers.{block-answer, block-leaves}
+use Rattle.block.proofs.LookAndFill.{looks-then-fills, fill-by-look}
+use Rattle.spots.specs.Spots.{spotAnswer, spotLeaves}
+use Rattle.spots.proofs.Answers.{spot-answer, spot-leaves}
 use Rattle.profile.specs.declared.Profile.{Profile}
 use Rattle.block.specs.declared.Verdict.{Verdict}
 use Rattle.sheet.specs.declared.Mode.{Mode}
+use Rattle.sheet.specs.declared.Mode.the-variants.{Burst, Spots}
 use Rattle.sheet.specs.declared.Refusal.the-variants.{Block}
 use Rattle.sheet.specs.declared.Reading.the-variants.{Refused, Accepted}
 use Rattle.sheet.specs.Modes.{verdictIn, wordIn}
 use Rattle.sheet.specs.Sheet.{joined, messageOf, writtenBlock, writtenSheet, readBlock, blockVerdict, codeword, isCorrected, changedAt, answerFrom, sheetAnswer}
-use Rattle.sheet.specs.Steps.{Laid, answerIn, leavesIn, CorrectedInto, CorrectedAll, changedBy}
+use Rattle.sheet.specs.Steps.{Laid, CorrectedInto, CorrectedAll, changedBy}
 use Rattle.sheet.proofs.Apart.{joined-length, taken, is-interleave}
 use Rattle.sheet.proofs.Differ.{differ-number}
-use Rattle.sheet.proofs.Modes.{block-law, answer-in, leaves-in}
+use Rattle.sheet.proofs.Modes.{block-law}
 use Rattle.sheet.proofs.Reader.{answer-on, answer-stop, answer-end}
 use Rattle.sheet.proofs.Theorems.{block-cells}
 
 -- ---- reading
 
--- the cells of a block, copied and corrected
-pub corrected-into : (mode : Mode) (p : Profile) (y word copied left : List ℕ) (r : Verdict) → InRange p → length y ≡ p .n → length word ≡ p .n
-    → copied ≡ take (length y) y ++ drop (length y) word → r ≡ answerIn mode p copied y → left ≡ leavesIn mode p copied y → CorrectedInto mode p y r left
-corrected-into mode p y word copied left r v h e g q t =
-    let s : copied ≡ y = g ∙ fill-all (length y) y word (omega arith) (omega arith) in
-    let a : r ≡ verdictIn mode p y = q ∙ ap (λ (z : List ℕ). answerIn mode p z y) s ∙ answer-in p v y h y h mode in
-    record {
-      answer = a;
-      word = λ k. t ∙ ap (λ (z : List ℕ). leavesIn mode p z y) s ∙ leaves-in p v y h y h mode (ap verdictNumber (sym a) ∙ eqb-true _ _ k);
+-- cells that are copied are the same
+pub copied-is : (n : ℕ) (y word copied : List ℕ) → length y ≡ n → length word ≡ n → copied ≡ take (length y) y ++ drop (length y) word → copied ≡ y
+copied-is n y word copied h e g = g ∙ fill-all (length y) y word (omega arith) (omega arith)
+
+module _ (p : Profile) (v : InRange p) (y : List ℕ) where
+  -- burst mode: what a look answers
+  module _ (h : Cells p y) (r : Verdict) (q : r ≡ lookAnswer p y) where
+    looked : r ≡ verdictIn Burst p y
+    looked = q ∙ looks-then-fills p y y (h .bytes) (h .count) .answer ∙ block-answer p v y (h .count) y (h .count)
+
+    -- a run of no cells: the block stays
+    pub stays : verdictLength r ≡ 0 → CorrectedInto Burst p y r y
+    stays z = record { answer = looked; word = λ k. sym (block-law Burst p y v h .changed (number k) .0 (none (number k))) }
+      where
+        number : isCorrected r ≡ true → verdictNumber (verdictIn Burst p y) ≡ 0
+        number k = ap verdictNumber (sym looked) ∙ eqb-true _ _ k
+
+        none : verdictNumber (verdictIn Burst p y) ≡ 0 → verdictLength (verdictIn Burst p y) + verdictCount (verdictIn Burst p y) ≡ 0
+        none k = ap₂ _+_ (ap verdictLength (sym looked) ∙ z) (ap verdictCount (verdict-0 p y k))
+
+    -- and else what its fill leaves is the codeword
+    pub filled-into : (copied left E : List ℕ) (s f : ℕ) → copied ≡ y → s ≡ verdictStart r → f ≡ verdictLength r → E ≡ lookError p y → left ≡ fillByLeaves p copied s f E y
+        → CorrectedInto Burst p y r left
+    filled-into copied left E s f g es ef eE t = record {
+      answer = looked;
+      word = λ k.
+          let o = fill-by-look p y y E (h .bytes) (h .count) eE (ap verdictNumber (sym q) ∙ eqb-true _ _ k) in
+          t ∙ rw (g, es ∙ ap verdictStart q, ef ∙ ap verdictLength q) o ∙ block-leaves p v y (h .count) y (h .count) (ap verdictNumber (sym looked) ∙ eqb-true _ _ k);
     }
+
+  -- spot mode
+  pub spots-into : length y ≡ p .n → (copied left : List ℕ) (r : Verdict) → copied ≡ y → r ≡ spotAnswer p copied y → left ≡ spotLeaves p copied y → CorrectedInto Spots p y r left
+  spots-into h copied left r g q t =
+      let a : r ≡ verdictIn Spots p y = q ∙ ap (λ (z : List ℕ). spotAnswer p z y) g ∙ spot-answer p v y h y h in
+      record {
+        answer = a;
+        word = λ k. t ∙ ap (λ (z : List ℕ). spotLeaves p z y) g ∙ spot-leaves p v y h y h (ap verdictNumber (sym a) ∙ eqb-true _ _ k);
+      }
+
+-- the mode is the one that was matched
+pub in-mode : (mode told : Mode) (p : Profile) (y : List ℕ) (r : Verdict) (left : List ℕ) → mode ≡ told → CorrectedInto told p y r left → CorrectedInto mode p y r left
+in-mode mode told p y r left e h = subst (λ (m : Mode). CorrectedInto m p y r left) (sym e) h
 
 -- block d where the codewords of the blocks before it and the read cells of the others stand one after the other
 pub block-left : (D n d : ℕ) (g read : ℕ → List ℕ) (o s : List ℕ) → d < D → length (read d) ≡ n → o ≡ joined D n read → s ≡ joined d n g ++ drop (d * n) o

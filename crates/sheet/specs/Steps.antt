@@ -7,13 +7,10 @@ use Prim.Native.Nat.{ℕ, _+_, _*_, _<_}
 use lib.Dec.{eqb}
 use lib.ListN.{getD, take, drop}
 use Rattle.lists.specs.Choice.{pick}
-use Rattle.block.specs.Block.{correctAnswer, correctLeaves}
 use Rattle.block.specs.Numbers.{verdictLength, verdictCount}
-use Rattle.spots.specs.Spots.{spotAnswer, spotLeaves}
 use Rattle.profile.specs.declared.Profile.{Profile}
 use Rattle.block.specs.declared.Verdict.{Verdict}
 use Rattle.sheet.specs.declared.Mode.{Mode}
-use Rattle.sheet.specs.declared.Mode.the-variants.{Burst, Spots}
 use Rattle.sheet.specs.declared.Reading.{Reading}
 use Rattle.sheet.specs.Modes.{verdictIn, wordIn}
 use Rattle.sheet.specs.Sheet.{joined, isCorrected, isAccepted, codeword, sheetAnswer}
@@ -22,15 +19,6 @@ use Rattle.sheet.specs.Sheet.{joined, isCorrected, isAccepted, codeword,
 pub record Laid (D n d : ℕ) (w s t : List ℕ) : Type 0 where
   pub cells : (i : ℕ) → i < n → getD t (i * D + d) 0 ≡ getD w i 0
   pub others : (i e : ℕ) → e < D → e ≢ d → getD t (i * D + e) 0 ≡ getD s (i * D + e) 0
-
--- what the corrector of a mode answers, and leaves in its second buffer
-abbrev pub answerIn : Mode → Profile → List ℕ → List ℕ → Verdict
-answerIn Burst p y out = correctAnswer p y out
-answerIn Spots p y out = spotAnswer p y out
-
-abbrev pub leavesIn : Mode → Profile → List ℕ → List ℕ → List ℕ
-leavesIn Burst p y out = correctLeaves p y out
-leavesIn Spots p y out = spotLeaves p y out
 
 -- the cells y of a block answer v, and their codeword, where they have one, stands in w
 pub record CorrectedInto (mode : Mode) (p : Profile) (y : List ℕ) (v : Verdict) (w : List ℕ) : Type 0 where

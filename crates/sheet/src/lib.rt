@@ -6,7 +6,7 @@ ghost use lib.ListN.{length, replicate};
 ghost use Rattle.profile.specs.Profile.{InRange, messageLength};
 ghost use Rattle.block.specs.Block.{encode};
 ghost use Rattle.sheet.specs.Sheet.{blockOf, joined, writtenSheet, readBlock, readAnswer, readScratch, readPayload, writeSheetAnswer, writeSheetLeaves, isCorrected, isAccepted, readFits, writeSheetFits};
-ghost use Rattle.sheet.specs.Steps.{Laid, answerIn, leavesIn, CorrectedInto, CorrectedAll, changedBy, messageAt};
+ghost use Rattle.sheet.specs.Steps.{Laid, CorrectedInto, CorrectedAll, changedBy, messageAt};
 use block::Verdict;
 use block::Written;
 use profile::Profile;
@@ -169,15 +169,33 @@ fn gather_blocks(p: Profile, sheet: &[u8], scratch: &mut [u8])
     }
 }
 
-// A block corrected in a mode: by the corrector of that mode.
-fn correct_in(mode: Mode, p: Profile, read: &[u8], out: &mut [u8]) -> Verdict
-    ensures { λ r. ⌜ r ≡ answerIn mode p (now (read .entry)) (now (out .entry)) ⌝ }
-    ensures { λ _. ⌜ now (out .exit) ≡ leavesIn mode p (now (read .entry)) (now (out .entry)) ⌝ }
+// A block in burst mode, in place: a look, and the fill of its run where that has a cell, by the shifted remainder that the look has. A clean block and a
+// refused one stay as they were read.
+fn correct_burst(p: Profile, word: &mut [u8], part: &mut [u8]) -> Verdict
+    requires { ⌜ InRange p ⌝ }
+    requires { ⌜ (length (now part) ≡ p .n) × (length (now word) ≡ p .n) ⌝ }
+    ensures { λ r. ⌜ CorrectedInto Mode.Burst p (now (part .entry)) r (now (part .exit)) ⌝ }
 {
-    match mode {
-        Mode::Burst => block::correct(p, read, out),
-        Mode::Spots => spots::correct(p, read, out),
+    let found = block::judge(p, part);
+    let verdict = found.verdict;
+    let size = verdict.length();
+    if size == 0 {
+        return verdict;
     }
+    let start = verdict.start();
+    bytes::copy(part, word);
+    block::fill_by(p, word, start, size, found.error, part);
+    verdict
+}
+
+// A block in spot mode, in place.
+fn correct_spots(p: Profile, word: &mut [u8], part: &mut [u8]) -> Verdict
+    requires { ⌜ InRange p ⌝ }
+    requires { ⌜ (length (now part) ≡ p .n) × (length (now word) ≡ p .n) ⌝ }
+    ensures { λ r. ⌜ CorrectedInto Mode.Spots p (now (part .entry)) r (now (part .exit)) ⌝ }
+{
+    bytes::copy(part, word);
+    spots::correct(p, word, part)
 }
 
 // A block corrected in place, with the read cells in `word` meanwhile.
@@ -186,8 +204,10 @@ fn correct_with(mode: Mode, p: Profile, word: &mut [u8], part: &mut [u8]) -> Ver
     requires { ⌜ (length (now part) ≡ p .n) × (length (now word) ≡ p .n) ⌝ }
     ensures { λ r. ⌜ CorrectedInto mode p (now (part .entry)) r (now (part .exit)) ⌝ }
 {
-    bytes::copy(part, word);
-    correct_in(mode, p, word, part)
+    match mode {
+        Mode::Burst => correct_burst(p, word, part),
+        Mode::Spots => correct_spots(p, word, part),
+    }
 }
 
 fn correct_block(mode: Mode, p: Profile, part: &mut [u8]) -> Verdict
