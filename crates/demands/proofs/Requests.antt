@@ -2,9 +2,12 @@
 use mathlib.Core.Path.{sym, ap, _∙_}
 use Rattle.code.specs.Code.{distance}
 use Rattle.code.proofs.Distance.{distance-self}
+use Rattle.block.proofs.Promises.{uncorrectable-iff}
+use Rattle.block.proofs.LookAndFill.{look-iff, look-refusals, filled-iff, one-within, no-codeword-iff, fill-limit-free, empty-run-iff, fill-refusals, looks-then-fills, fills-at-once}
 use Rattle.spots.proofs.Promises.{corrected-cells-iff, too-many-errors-iff, no-tie, near-comes-back, limit-free, spot-refusals}
-use Rattle.sheet.specs.declared.Mode.the-variants.{Spots}
+use Rattle.sheet.specs.declared.Mode.the-variants.{Burst, Spots}
 use Rattle.sheet.proofs.Theorems.{read-results}
+use Rattle.sheet.proofs.Looks.{sheet-by-looks}
 use Rattle.sheet.proofs.Refusals.{sheet-refusals}
 use Rattle.sheet.proofs.Promise.{sheet-promise}
 use Rattle.sheet.proofs.LimitFree.{sheet-limit-free}
@@ -13,7 +16,7 @@ use Rattle.plot_promises.proofs.Lines.{line-check-exactly}
 use Rattle.plot_promises.proofs.FirstBad.{first-line-rises}
 use Rattle.plot_promises.proofs.Figures.{figures}
 use Rattle.former.proofs.AsBefore.{numbers-and-text-as-before}
-use Rattle.demands.specs.Requests.{Request1, Request2, Requests}
+use Rattle.demands.specs.Requests.{Request1, Request2, Request3, Requests}
 
 request-1 : Request1
 request-1 = record {
@@ -35,5 +38,22 @@ request-1 = record {
 request-2 : Request2
 request-2 = record { line = line-check-exactly; first-line = first-line-rises; figures = figures; as-before = numbers-and-text-as-before }
 
+request-3 : Request3
+request-3 = record {
+  look = look-iff;
+  look-refusals = look-refusals;
+  fill = filled-iff;
+  one = one-within;
+  none = no-codeword-iff;
+  limit = fill-limit-free;
+  elsewhere = uncorrectable-iff;
+  reading = read-results Burst;
+  sheet = sheet-by-looks;
+  at-once = fills-at-once;
+  same = looks-then-fills;
+  fill-refusals = fill-refusals;
+  empty = empty-run-iff;
+}
+
 pub requests : Requests
-requests = record { first = request-1; second = request-2 }
+requests = record { first = request-1; second = request-2; third = request-3 }

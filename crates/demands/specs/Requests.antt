@@ -7,14 +7,16 @@ use lib.ListN.{length}
 use Rattle.code.specs.Code.{distance}
 use Rattle.profile.specs.Profile.{InRange}
 use Rattle.profile.specs.declared.Profile.{Profile}
-use Rattle.block.specs.Promises.{LentBlock}
+use Rattle.block.specs.Promises.{LentBlock, UncorrectableIff}
+use Rattle.block.specs.LookAndFill.{LookIff, LookRefusals, FilledIff, OneWithin, NoCodewordIff, FillLimitFree, EmptyRun, FillRefusals, LooksThenFills, FillsAtOnce}
 use Rattle.spots.specs.Nearest.{LowestChanged}
 use Rattle.spots.specs.Promises.{CorrectsCells, CorrectedCellsIff, TooManyErrorsIff, NoTie, NearComesBack, LimitFree, SpotRefusals}
-use Rattle.sheet.specs.declared.Mode.the-variants.{Spots}
+use Rattle.sheet.specs.declared.Mode.the-variants.{Burst, Spots}
 use Rattle.sheet.specs.Sheet.{writeSheetLeaves, readAnswer, readPayload}
 use Rattle.sheet.specs.Numbers.{readingNumber}
 use Rattle.sheet.specs.Buffers.{Payload, Lent}
 use Rattle.sheet.specs.Theorems.{Results, ReadRefusals, SheetLimitFree}
+use Rattle.sheet.specs.Looks.{SheetByLooks}
 use Rattle.sheet.specs.Promise.{FewErrors}
 use Rattle.plot.specs.declared.Line.{Line}
 use Rattle.plot.specs.Sheets.{SameAfterErrors}
@@ -57,6 +59,31 @@ pub record Request2 : Type 0 where
   -- what the note leaves as it was, on every input: numbers, places, the payload after adding, and the lister's text
   pub as-before : NumbersAndTextAsBefore
 
+-- Note 3, look first, fill after
+pub record Request3 : Type 0 where
+  -- "Mending splits into a look, which writes nothing and gives the verdict, ..": a look is lent no buffer that it could write
+  pub look : LookIff
+  pub look-refusals : (p : Profile) (y : List ℕ) → LookRefusals p y
+  -- ".. and a fill, which takes a start and length and writes the codeword within that run, ..": there is at most one
+  pub fill : FilledIff
+  pub one : OneWithin
+  -- ".. or says torn if none is; from a fill, torn speaks of that one run only, whatever L is, ..": L and the depth have no effect on a fill
+  pub none : NoCodewordIff
+  pub limit : FillLimitFree
+  -- ".. and elsewhere it means what it did.": of the corrector and of a read sheet
+  pub elsewhere : UncorrectableIff
+  pub reading : (p : Profile) (sheet scratch out : List ℕ) → InRange p → Lent p sheet scratch out → Results Burst p sheet scratch out
+  -- "The sheet reader uses both.": each block's look hands the fill what it has worked out, and that is the fill all the same
+  pub sheet : SheetByLooks
+  pub at-once : FillsAtOnce
+  -- "With a second buffer of n bytes, a look followed, where it accepts, by its fill must be what mending was."
+  pub same : LooksThenFills
+  -- "Answers: 12 bad span, after 2 and before 3, when start plus length exceeds n or length exceeds r−1."
+  pub fill-refusals : (p : Profile) (y : List ℕ) (s f : ℕ) (out : List ℕ) → FillRefusals p y s f out
+  -- what the note leaves open, as decided: start n with length 0 is a run too, and a run of no cells holds the block itself where that is a codeword
+  pub empty : EmptyRun
+
 pub record Requests : Type 0 where
   pub first : Request1
   pub second : Request2
+  pub third : Request3
