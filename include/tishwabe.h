@@ -25,12 +25,12 @@
 extern "C" {
 #endif
 
-/* The documents' numbers, with their words for them: 1 to 10 are document 01's, 11 is document 02's. */
+/* The documents' numbers, with their words for them: 1 to 10 are document 01's, 11 and 12 are document 02's. */
 enum tishwabe_refusal {
     TISHWABE_ACCEPTED = 0,
     TISHWABE_BAD_PROFILE = 1,   /* misprint: a profile number is outside its range */
     TISHWABE_WRONG_LENGTH = 2,  /* wrong frame: a buffer hasn't exactly its length, or a payload exceeds 4,048 bytes */
-    TISHWABE_UNCORRECTABLE = 3, /* torn: no run of up to L cells reaches a codeword */
+    TISHWABE_UNCORRECTABLE = 3, /* torn: no run of up to L cells reaches a codeword; from tishwabe_fill_block: the run named reaches none */
     TISHWABE_AMBIGUOUS = 4,     /* tied: shortest runs reach two different codewords */
     TISHWABE_BAD_MARK = 5,      /* bad mark: mark wrong, or a byte after the first zero isn't zero */
     TISHWABE_CUT_SHORT = 6,     /* cut short: header or lines pass the payload's end */
@@ -38,7 +38,8 @@ enum tishwabe_refusal {
     TISHWABE_PLOT_ORDER = 8,    /* plot order: plot number not above the one before */
     TISHWABE_NO_SUCH_PLOT = 9,  /* no such plot: payload accepted, plot absent */
     TISHWABE_FULL = 10,         /* full: the record needs more bytes than are left after the last record */
-    TISHWABE_TOO_MANY_ERRORS = 11 /* spotted: in spot mode, no codeword differs in at most h cells */
+    TISHWABE_TOO_MANY_ERRORS = 11, /* spotted: in spot mode, no codeword differs in at most h cells */
+    TISHWABE_BAD_SPAN = 12      /* bad span: start plus length exceeds n, or length exceeds r - 1 */
 };
 
 /* Document 02's figures: what fails first in the first bad line of a tally, beside TISHWABE_BAD_TALLY. */
@@ -60,7 +61,8 @@ enum tishwabe_figure {
  * rounded down, in both cases. */
 size_t tishwabe_profile(size_t n, size_t r, size_t b, size_t limit, size_t depth, size_t *k, size_t *h);
 
-/* ---- blocks: refusals 1 and 2, 3 and 4 of the corrector, and 11 of the corrector in spot mode; their place is 0 */
+/* ---- blocks: refusals 1 and 2, 3 and 4 of the corrector and of the look, 12 and 3 of the fill, and 11 of the corrector in spot mode; their place is
+ * 0 */
 
 /* Writes the block of a message: k bytes in, n cells out. */
 size_t tishwabe_write_block(size_t n, size_t r, size_t b, size_t limit, size_t depth,
@@ -77,6 +79,22 @@ size_t tishwabe_correct_block(size_t n, size_t r, size_t b, size_t limit, size_t
                               const uint8_t *read, size_t read_length, /* n */
                               uint8_t *out, size_t out_length,         /* n */
                               size_t *start, size_t *length);
+
+/* Looks at a block in scratch mode, and writes no cell: the answer, *start and *length are those of tishwabe_correct_block with an out of n bytes.
+ * Refusals 1 to 4, of which 2 is for the length of read. Where it is accepted, tishwabe_fill_block with that start and length then leaves in out what
+ * tishwabe_correct_block would. */
+size_t tishwabe_look_block(size_t n, size_t r, size_t b, size_t limit, size_t depth,
+                           const uint8_t *read, size_t read_length, /* n */
+                           size_t *start, size_t *length);
+
+/* Fills a run of a block: the codeword that agrees with the read cells outside the length cells from cell start on goes to out, all n cells of it;
+ * there is at most one. Any run of up to r - 1 cells may be named, cell n with length 0 too: limit must be in its range and has no other effect, and
+ * on a tied block the run named decides. Refusals 1, 2, 12 and 3, in this order: 12 where start plus length exceeds n, as whole numbers that do not
+ * wrap, or length exceeds r - 1; 3 where this one run reaches no codeword. */
+size_t tishwabe_fill_block(size_t n, size_t r, size_t b, size_t limit, size_t depth,
+                           const uint8_t *read, size_t read_length, /* n */
+                           size_t start, size_t length,             /* the run */
+                           uint8_t *out, size_t out_length);        /* n */
 
 /* Corrects a block in spot mode: the one codeword that differs from the read cells in at most h of them, wherever they lie, goes to out.
  * *count is the number of cells changed and *lowest the lowest of them, 0 and 0 for a clean block. limit must be in its range and has no

@@ -1,6 +1,6 @@
 /* Writes a sheet with two plots, a third being refused for the class in one of its lines; shows what the check says of tallies with one bad value;
  * damages the sheet, reads it back, asks for a plot, and lists the sheet as the plot lister does; then the same sheet with mould is read in spot
- * mode. */
+ * mode; then a block is looked at before anything is written, and filled within runs that are named. */
 #include <stdio.h>
 #include <string.h>
 
@@ -101,6 +101,45 @@ static void read_with_mould(uint8_t *sheet) {
     printf("block 0 with one more: answer %zu, %zu, %zu\n", number, count, lowest);
 }
 
+/* Looks at a block and prints the answer: where the shortest run lies, if there is one. */
+static void look(const uint8_t *block, size_t *start, size_t *length) {
+    size_t number = tishwabe_look_block(PROFILE, block, N, start, length);
+    printf("look: answer %zu, start %zu, length %zu\n", number, *start, *length);
+}
+
+/* Fills a run of a block and prints the answer, and whether the cells are those that were written. */
+static void fill(const uint8_t *block, size_t start, size_t length, const uint8_t *written) {
+    uint8_t filled[N];
+    size_t number = tishwabe_fill_block(PROFILE, block, N, start, length, filled, N);
+    printf("fill from %zu on, %zu cells: answer %zu", start, length, number);
+    if (number == TISHWABE_ACCEPTED) {
+        printf(memcmp(filled, written, N) == 0 ? ", as written" : ", another codeword");
+    }
+    printf("\n");
+}
+
+/* A short scratch is filled where the look found it, a longer one where the caller saw it. */
+static void look_and_fill(void) {
+    static const uint8_t message[K] = {1, 2, 3, 4, 5, 6, 7, 8, 9, 10, 11, 12};
+    uint8_t written[N], block[N];
+    size_t start, length;
+    tishwabe_write_block(PROFILE, message, K, written, N);
+    memcpy(block, written, N);
+    look(block, &start, &length);
+    memset(block + 9, 255, 4);
+    look(block, &start, &length);
+    fill(block, start, length, written);
+    memset(block + 8, 255, 6); /* more cells than the limit */
+    look(block, &start, &length);
+    fill(block, 8, 6, written);
+    fill(block, 7, R - 1, written); /* a wider run gives the same */
+    fill(block, 9, 6, written);     /* cell 8 is outside */
+    fill(block, 8, R, written);     /* at most R - 1 cells */
+    fill(block, N - 5, 6, written); /* past the last cell */
+    block[N - 1] ^= 1;
+    fill(block, 8, 6, written); /* a spot outside the run */
+}
+
 int main(void) {
     static const uint8_t pines[] = {3, 32, 2};
     static const uint8_t mixed[] = {1, 10, 255, 3, 31, 4, 3, 32, 1};
@@ -135,5 +174,7 @@ int main(void) {
     number = tishwabe_write_sheet(PROFILE, payload, D * K, sheet, D * N);
     printf("written again: answer %zu\n", number);
     read_with_mould(sheet);
+
+    look_and_fill();
     return 0;
 }

@@ -19,10 +19,17 @@ value-of {A = A} number value place x y n v p z en ev ep ez same = number-of (λ
 pub tested : (t u : Bool) → t ≡ u → pick {A = ℕ} t 0 1 ≡ pick u 0 1
 tested t u same = ap (λ (x : Bool). pick {A = ℕ} x 0 1) same
 
--- a corrector's answer as its number and two values, and what it leaves, at a profile that is the one due
+-- a verdict as its number and two values, at a profile that is the one due
+pub verdict-of : (A : Profile → Verdict) (f g : Verdict → ℕ) (p q : Profile) (w : Verdict) (z a b : ℕ) → p ≡ q → w ≡ A p → z ≡ verdictNumber w → a ≡ f w → b ≡ g w
+    → (z ≡ verdictNumber (A q)) × ((a ≡ f (A q)) × (b ≡ g (A q)))
+verdict-of A f g p q w z a b e ew ez ea eb =
+    let s : w ≡ A q = ew ∙ ap A e in
+    (number-of verdictNumber w (A q) z ez s, (number-of f w (A q) a ea s, number-of g w (A q) b eb s))
+
+-- the same of a corrector, and what it leaves
 pub corrector-of : (A : Profile → Verdict) (L : Profile → List ℕ) (f g : Verdict → ℕ) (p q : Profile) (w : Verdict) (o : List ℕ) (z a b : ℕ)
     → p ≡ q → w ≡ A p → o ≡ L p → z ≡ verdictNumber w → a ≡ f w → b ≡ g w
     → (z ≡ verdictNumber (A q)) × ((a ≡ f (A q)) × ((b ≡ g (A q)) × (o ≡ L q)))
 corrector-of A L f g p q w o z a b e ew eo ez ea eb =
-    let s : w ≡ A q = ew ∙ ap A e in
-    (number-of verdictNumber w (A q) z ez s, (number-of f w (A q) a ea s, (number-of g w (A q) b eb s, eo ∙ ap L e)))
+    let v = verdict-of A f g p q w z a b e ew ez ea eb in
+    (v .0, (v .1 .0, (v .1 .1, eo ∙ ap L e)))

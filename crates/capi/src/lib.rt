@@ -3,8 +3,8 @@
 // contract is that entry's answer, as the numbers that its own crate defines; specs/Numbers.antt has what C alone needs.
 ghost use mathlib.Core.Path.{_≡_};
 ghost use Rattle.profile.specs.Profile.{messageLength, half};
-ghost use Rattle.block.specs.Block.{writeAnswer, writeLeaves, checkAnswer, correctAnswer, correctLeaves};
-ghost use Rattle.block.specs.Numbers.{verdictNumber, verdictStart, verdictLength, verdictCount, verdictLowest, writtenNumber, checkedNumber, checkedClean};
+ghost use Rattle.block.specs.Block.{writeAnswer, writeLeaves, checkAnswer, correctAnswer, correctLeaves, lookAnswer, fillAnswer, fillLeaves};
+ghost use Rattle.block.specs.Numbers.{verdictNumber, verdictStart, verdictLength, verdictCount, verdictLowest, writtenNumber, checkedNumber, checkedClean, filledNumber};
 ghost use Rattle.spots.specs.Spots.{spotAnswer, spotLeaves};
 ghost use Rattle.sheet.specs.declared.Mode.the-variants.{Burst, Spots};
 ghost use Rattle.sheet.specs.Sheet.{writeSheetAnswer, writeSheetLeaves, readAnswer, readScratch, readPayload};
@@ -16,41 +16,12 @@ ghost use Rattle.listing_text.specs.Text.{listingText, refusalText};
 ghost use Rattle.listing_text.specs.Buffer.{textIn, textLength};
 ghost use Rattle.listing.specs.Listing.{listed};
 ghost use Rattle.capi.specs.Numbers.{profileOf, profileNumber, valueOrPlace};
-use profile::Profile;
+use numbers::profile_number;
+use numbers::profile_of;
+use numbers::value_or_place;
 use sheet::Mode;
 
-fn profile_of(n: usize, r: usize, b: usize, limit: usize, depth: usize) -> Profile
-    ensures { λ z. ⌜ z ≡ profileOf n r b limit depth ⌝ }
-{
-    Profile {
-        n,
-        r,
-        b,
-        limit,
-        depth,
-    }
-}
-
-// ---- answers as numbers
-
-// Where accepted a value, and else the place of the refusal.
-fn value_or_place(number: usize, value: usize, place: usize) -> usize
-    ensures { λ z. ⌜ z ≡ valueOrPlace number value place ⌝ }
-{
-    if number == 0 {
-        return value;
-    }
-    place
-}
-
-fn profile_number(p: Profile) -> usize
-    ensures { λ z. ⌜ z ≡ profileNumber p ⌝ }
-{
-    if p.in_range() {
-        return 0;
-    }
-    1
-}
+mod numbers;
 
 // ---- blocks
 
@@ -133,6 +104,47 @@ pub extern "C" fn tishwabe_correct_block(
     *start = answer.start();
     *length = answer.length();
     answer.number()
+}
+
+/// Looks at a block in burst mode, and writes nothing: the start and the length of the run.
+#[no_mangle]
+pub extern "C" fn tishwabe_look_block(
+    n: usize,
+    r: usize,
+    b: usize,
+    limit: usize,
+    depth: usize,
+    read: &[u8],
+    start: &mut usize,
+    length: &mut usize,
+) -> usize
+    ensures { λ z. ⌜ z ≡ verdictNumber (lookAnswer (profileOf n r b limit depth) (now (read .entry))) ⌝ }
+    ensures { λ _. ⌜ now (start .exit) ≡ verdictStart (lookAnswer (profileOf n r b limit depth) (now (read .entry))) ⌝ }
+    ensures { λ _. ⌜ now (length .exit) ≡ verdictLength (lookAnswer (profileOf n r b limit depth) (now (read .entry))) ⌝ }
+{
+    let verdict = block::look(profile_of(n, r, b, limit, depth), read);
+    *start = verdict.start();
+    *length = verdict.length();
+    verdict.number()
+}
+
+/// Fills a run of a block, whatever the limit is: the codeword within that run goes to `out`.
+#[no_mangle]
+pub extern "C" fn tishwabe_fill_block(
+    n: usize,
+    r: usize,
+    b: usize,
+    limit: usize,
+    depth: usize,
+    read: &[u8],
+    start: usize,
+    length: usize,
+    out: &mut [u8],
+) -> usize
+    ensures { λ z. ⌜ z ≡ filledNumber (fillAnswer (profileOf n r b limit depth) (now (read .entry)) start length (now (out .entry))) ⌝ }
+    ensures { λ _. ⌜ now (out .exit) ≡ fillLeaves (profileOf n r b limit depth) (now (read .entry)) start length (now (out .entry)) ⌝ }
+{
+    block::fill(profile_of(n, r, b, limit, depth), read, start, length, out).number()
 }
 
 /// Corrects a block in spot mode: the number of cells changed and the lowest of them.

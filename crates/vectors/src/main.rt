@@ -1,8 +1,9 @@
 // Runs the library on the vectors of standard input and prints one line of numbers for each. The files stdin and stdout were made by
 // rust/second, which shares no code with the library: `vectors library --bytes` and `vectors library --answers`;
 // rust/second/src/bin/vectors/main.rs says what a vector is. It begins with a byte for the operation (0 correct, 1 write, 2 check a block;
-// 3 write, 4 read a sheet; 5 check a payload, 6 ask it for a plot, 7 add a plot to it; 8 correct a block and 9 read a sheet in spot mode); a word is
-// two bytes, the low one first. Of 5, 6 and 7 figure and line follow the other numbers, 0 and 0 where no line is at fault.
+// 3 write, 4 read a sheet; 5 check a payload, 6 ask it for a plot, 7 add a plot to it; 8 correct a block and 9 read a sheet in spot mode; 10 look at a
+// block, 11 fill a run of it); a word is two bytes, the low one first. Of 5, 6 and 7 figure and line follow the other numbers, 0 and 0 where no line is
+// at fault.
 ghost use Prim.Native.Nat.{_<_, _≤_};
 use libc::STDIN_FILENO;
 use libc::STDOUT_FILENO;
@@ -52,6 +53,15 @@ fn word() -> usize
     let mut pair = [0u8; 2];
     io::read_full(STDIN_FILENO, &mut pair);
     value(&pair)
+}
+
+// A number of eight bytes, the low one first.
+fn long() -> usize {
+    let a = word() as u64;
+    let b = word() as u64;
+    let c = word() as u64;
+    let d = word() as u64;
+    (a ^ (b << 16) ^ (c << 32) ^ (d << 48)) as usize
 }
 
 fn plot_number() -> u16 {
@@ -124,6 +134,25 @@ fn correct(p: Profile) {
     let v = block::correct(p, read, out);
     two(v.number(), v.start());
     next(v.length());
+    cells(out);
+}
+
+fn look(p: Profile) {
+    let mut space = [0u8; 4096];
+    let read = buffer(&mut space);
+    let v = block::look(p, read);
+    two(v.number(), v.start());
+    next(v.length());
+}
+
+fn fill(p: Profile) {
+    let mut space = [0u8; 4096];
+    let read = buffer(&mut space);
+    let start = long();
+    let length = long();
+    let mut second = [170u8; 512];
+    let out = part(&mut second);
+    first(block::fill(p, read, start, length, out).number());
     cells(out);
 }
 
@@ -249,7 +278,9 @@ fn vector(o: u8) {
         6 => ask(),
         7 => add(),
         8 => correct_spots(profile()),
-        _ => read_sheet(Mode::Spots, profile()),
+        9 => read_sheet(Mode::Spots, profile()),
+        10 => look(profile()),
+        _ => fill(profile()),
     }
     end();
 }

@@ -1,7 +1,7 @@
 -- The two cases of the test.
 use borrow.Author.Tests.{eq-eqb, ne-eqb}
-use Rattle.capi.proofs.value_or_place.Statement.{statement}
-use Rattle.capi.proofs.value_or_place.Tie as tie
+use Rattle.capi.proofs.numbers.value_or_place.Statement.{statement}
+use Rattle.capi.proofs.numbers.value_or_place.Tie as tie
 
 returns : tie.Need-returns
 returns c = rw (eq-eqb _ 0 (c .if1 .taken))

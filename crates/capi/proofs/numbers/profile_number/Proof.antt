@@ -3,8 +3,8 @@ use mathlib.Core.Path.{sym, _∙_}
 use mathlib.Core.Bool.{true, false}
 use Rattle.capi.proofs.Laws.{tested}
 use borrow.Author.Needs.{needs}
-use Rattle.capi.proofs.profile_number.Statement.{statement}
-use Rattle.capi.proofs.profile_number.Tie as tie
+use Rattle.capi.proofs.numbers.profile_number.Statement.{statement}
+use Rattle.capi.proofs.numbers.profile_number.Tie as tie
 
 in-range-requires : tie.Need-in-range-requires
 in-range-requires c κs = search needs
