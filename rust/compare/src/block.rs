@@ -1,8 +1,9 @@
 //! Entries on a block.
 
 use crate::{library_mode, numbers, outcome, profile, Answer};
+use second::fill::fill as second_fill;
 use second::random::Random;
-use second::{block, Mode, Profile};
+use second::{block, Mode, Profile, Run};
 use tishwabe::ffi;
 
 /// Writes a message into a buffer of `length` bytes with both.
@@ -22,6 +23,12 @@ pub fn write(random: &mut Random, p: &Profile, message: &[u8], length: usize) ->
         assert_eq!(cells, due);
     }
     (answer, cells)
+}
+
+/// A written block of random bytes.
+pub fn written(random: &mut Random, p: &Profile) -> Vec<u8> {
+    let message = random.bytes(p.k());
+    write(random, p, &message, p.n).1
 }
 
 /// Checks a block with both.
@@ -63,6 +70,39 @@ pub fn correct_in(mode: Mode, random: &mut Random, p: &Profile, read: &[u8], len
                 (changes.count, changes.lowest)
             }),
         };
+        assert_eq!((again, &out), (answer, &due));
+    }
+    (answer, due)
+}
+
+/// Looks at a block with both: start and length of the run are the values. The block is left as it was.
+pub fn look(p: &Profile, read: &[u8]) -> Answer {
+    let before = read.to_vec();
+    let answer = outcome(block::look(p, read), |run| (run.start, run.length));
+    let found = ffi::look_block(numbers(p), read);
+    assert_eq!(found, (answer.0, answer.2, answer.3), "{p:?} {read:?}");
+    if let Some(made) = profile(p) {
+        assert_eq!(outcome(made.look_block(read), |run| (run.start, run.length)), answer);
+    }
+    assert_eq!(read, before, "{p:?}");
+    answer
+}
+
+/// Fills a run of a block with both, into a buffer of `length` bytes, which a refusal leaves. The bytes of the buffer afterwards come too.
+pub fn fill(random: &mut Random, p: &Profile, read: &[u8], run: Run, length: usize) -> (Answer, Vec<u8>) {
+    let mut out = random.bytes(length);
+    let (mut due, before) = (out.clone(), out.clone());
+    let answer = outcome(second_fill(p, read, run, &mut due), |()| (0, 0));
+    let found = ffi::fill_block(numbers(p), read, run.start, run.length, &mut out);
+    assert_eq!((found, &out), (answer.0, &due), "{p:?} {read:?} {run:?}");
+    assert!(answer.0 == 0 || out == before, "{p:?} {read:?} {run:?}");
+    if let Some(made) = profile(p) {
+        out = before;
+        let named = tishwabe::Run {
+            start: run.start,
+            length: run.length,
+        };
+        let again = outcome(made.fill_block(read, named, &mut out), |()| (0, 0));
         assert_eq!((again, &out), (answer, &due));
     }
     (answer, due)

@@ -2,7 +2,7 @@
 
 use second::generator::generator;
 use second::random::Random;
-use second::{plot, Profile};
+use second::{plot, Profile, Run};
 
 /// The largest n and r of a profile to draw: brute force takes long on large ones.
 #[derive(Clone, Copy)]
@@ -115,6 +115,42 @@ fn add_half_codeword(random: &mut Random, p: &Profile, cells: &mut [u8]) {
     let count = p.r.div_ceil(2);
     for (cell, coefficient) in cells[start..].iter_mut().zip(generator(p.b, p.r)).take(count) {
         *cell ^= coefficient;
+    }
+}
+
+/// A start and a length at an edge of what is a run of fewer than r cells, or any such run.
+pub fn span(random: &mut Random, p: &Profile) -> Run {
+    let lengths = [0, 1, p.limit, p.limit + 1, p.r - 1, p.r, p.n];
+    let length = match random.between(0, 2) {
+        0 => lengths[random.between(0, 6)],
+        _ => random.between(0, p.r - 1),
+    };
+    let last = p.n - length;
+    let starts = [0, last, last + 1, p.n - 1, p.n, p.n + 1];
+    let start = match random.between(0, 2) {
+        0 => starts[random.between(0, 5)],
+        _ => random.between(0, last),
+    };
+    Run { start, length }
+}
+
+/// A start and a length of which one or both are far past the block; some sums are small modulo 2^64, some numbers modulo 2^32.
+pub fn far_span(random: &mut Random, p: &Profile) -> Run {
+    let Run { start, length } = span(random, p);
+    let near = random.between(0, p.n + 1);
+    let far = [usize::MAX, usize::MAX - near, (1 << 63) + near, (1 << 32) + near][random.between(0, 3)];
+    match random.between(0, 3) {
+        0 => Run { start: far, length },
+        1 => Run { start, length: far },
+        2 => Run {
+            start: far,
+            length: far,
+        },
+        // the sum is 2^64
+        _ => Run {
+            start: usize::MAX - length,
+            length: length + 1,
+        },
     }
 }
 

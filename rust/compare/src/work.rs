@@ -47,6 +47,7 @@ pub fn called(number: usize) -> &'static str {
         "no such plot",
         "full",
         "spotted",
+        "bad span",
     ][number]
 }
 

@@ -1,16 +1,10 @@
 //! Blocks in spot mode, corrected by the library and by the second decoder.
 
-use compare::block::{check, correct, correct_spots, write};
+use compare::block::{check, correct, correct_spots, written};
 use compare::draw::{self, Size, DAMAGES, LARGE, MEDIUM, SMALL};
 use compare::work::{called, run, Tally};
 use second::random::Random;
 use second::{cases, gf, spots, Profile};
-
-/// A written block of random bytes.
-fn written(random: &mut Random, p: &Profile) -> Vec<u8> {
-    let message = random.bytes(p.k());
-    write(random, p, &message, p.n).1
-}
 
 /// Corrects with both, and counts the answer: clean, accepted or spotted.
 fn count(random: &mut Random, p: &Profile, read: &[u8], tally: &mut Tally) -> Vec<u8> {

@@ -55,7 +55,7 @@ impl Profile {
     }
 }
 
-/// Document 01: a run, `start + length` being at most n.
+/// Document 01: a run. What the search answers lies within the block; what a fill is asked for may not.
 #[derive(Clone, Copy, Debug, PartialEq, Eq)]
 pub struct Run {
     pub start: usize,
@@ -112,6 +112,13 @@ pub fn correct(profile: &Profile, read: &[u8], corrected: &mut [u8]) -> Result<R
     let (run, codeword) = search(profile, read)?;
     corrected.copy_from_slice(&codeword);
     Ok(run)
+}
+
+/// Document 02, Note 3: the look. What the mender answers, and nothing is written.
+pub fn look(profile: &Profile, read: &[u8]) -> Result<Run, Refusal> {
+    profile.check()?;
+    check_lengths(&[(read.len(), profile.n)])?;
+    search(profile, read).map(|(run, _)| run)
 }
 
 /// Tries the lengths in turn and, for each, every start; ends at the first length that reaches a codeword.

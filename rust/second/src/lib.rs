@@ -4,6 +4,9 @@
 
 pub mod block;
 pub mod cases;
+#[cfg(test)]
+mod codewords;
+pub mod fill;
 pub mod generator;
 pub mod gf;
 pub mod linear;

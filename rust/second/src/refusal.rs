@@ -23,6 +23,8 @@ pub const NO_SUCH_PLOT: u8 = 9;
 pub const NO_SPACE: u8 = 10;
 /// Document 02, Note 1: "spotted".
 pub const NO_CODEWORD_NEAR: u8 = 11;
+/// Document 02, Note 3: "bad span".
+pub const RUN_OUT_OF_RANGE: u8 = 12;
 
 /// Document 02, Note 2: what fails in a tally line is its species.
 pub const SPECIES: u8 = 1;

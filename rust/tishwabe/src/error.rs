@@ -58,8 +58,8 @@ impl fmt::Display for LineFault {
     }
 }
 
-/// Why an entry refused. `Display` gives the documents' word for it, its number and its place; for 11 it says what is meant, and for a fault in a
-/// tally line which line, that the first line is 0, and which value.
+/// Why an entry refused. `Display` gives the documents' word for it, its number and its place; for 11 and 12 it says what is meant, and for a fault
+/// in a tally line which line, that the first line is 0, and which value.
 ///
 /// ```
 /// use tishwabe::{Error, Figure, LineFault};
@@ -67,6 +67,8 @@ impl fmt::Display for LineFault {
 /// assert_eq!(Error::Uncorrectable { block: 2 }.to_string(), "torn (refusal 3, place 2)");
 /// let spotted = Error::TooManyErrors { block: 2 }.to_string();
 /// assert_eq!(spotted, "spotted: no codeword differs in at most h cells (refusal 11, place 2)");
+/// let span = Error::BadSpan.to_string();
+/// assert_eq!(span, "bad span: start plus length exceeds n, or length exceeds r − 1 (refusal 12, place 0)");
 ///
 /// let outside_a_line = Error::BadTally { place: 12, line: None };
 /// assert_eq!(outside_a_line.to_string(), "bad tally (refusal 7, place 12)");
@@ -83,7 +85,10 @@ pub enum Error {
     BadProfile,
     /// 2, "wrong frame": a lent buffer, lent lines aside, hasn't exactly its length, or a payload exceeds 4,048 bytes.
     WrongLength,
-    /// 3, "torn": no run up to the profile's limit reaches a codeword. The block is 0 for a lone block.
+    /// 3, "torn": no run up to the profile's limit reaches a codeword. The block is 0 for a lone block. From [`Profile::fill_block`] it speaks of
+    /// the run named alone, whatever the limit is: no codeword agrees with the read cells outside that run.
+    ///
+    /// [`Profile::fill_block`]: crate::Profile::fill_block
     Uncorrectable {
         /// The number of the block.
         block: usize,
@@ -127,10 +132,12 @@ pub enum Error {
         /// The number of the block.
         block: usize,
     },
+    /// 12, "bad span": of the run to be filled, start plus length exceeds n, or length exceeds r − 1.
+    BadSpan,
 }
 
 impl Error {
-    /// Its number, 1 to 10 in document 01, 11 in document 02.
+    /// Its number, 1 to 10 in document 01, 11 and 12 in document 02.
     pub fn number(self) -> u8 {
         match self {
             Error::BadProfile => 1,
@@ -144,13 +151,14 @@ impl Error {
             Error::NoSuchPlot => 9,
             Error::Full { .. } => 10,
             Error::TooManyErrors { .. } => 11,
+            Error::BadSpan => 12,
         }
     }
 
     /// Its place: a block's number, or a byte of the payload, or 0.
     pub fn place(self) -> usize {
         match self {
-            Error::BadProfile | Error::WrongLength | Error::NoSuchPlot => 0,
+            Error::BadProfile | Error::WrongLength | Error::NoSuchPlot | Error::BadSpan => 0,
             Error::Uncorrectable { block } | Error::Ambiguous { block } | Error::TooManyErrors { block } => block,
             Error::BadMark { place }
             | Error::CutShort { place }
@@ -200,6 +208,7 @@ impl Error {
             Error::NoSuchPlot => "no such plot",
             Error::Full { .. } => "full",
             Error::TooManyErrors { .. } => "spotted",
+            Error::BadSpan => "bad span",
         }
     }
 }
@@ -209,6 +218,7 @@ impl fmt::Display for Error {
         f.write_str(self.called())?;
         match self {
             Error::TooManyErrors { .. } => f.write_str(": no codeword differs in at most h cells")?,
+            Error::BadSpan => f.write_str(": start plus length exceeds n, or length exceeds r − 1")?,
             Error::BadTally {
                 place,
                 line: Some(fault),
@@ -232,7 +242,7 @@ pub(crate) fn accepted<T>(number: usize, place: usize, value: T) -> Result<T, Er
     payload_accepted(answer, value)
 }
 
-/// The value, unless the number is a refusal's. The library answers no number above 11.
+/// The value, unless the number is a refusal's. The library answers no number above 12.
 pub(crate) fn payload_accepted<T>(answer: PayloadAnswer, value: T) -> Result<T, Error> {
     let PayloadAnswer { place, line: index, .. } = answer;
     Err(match answer.number {
@@ -250,6 +260,7 @@ pub(crate) fn payload_accepted<T>(answer: PayloadAnswer, value: T) -> Result<T, 
         8 => Error::PlotOrder { place },
         9 => Error::NoSuchPlot,
         10 => Error::Full { place },
-        _ => Error::TooManyErrors { block: place },
+        11 => Error::TooManyErrors { block: place },
+        _ => Error::BadSpan,
     })
 }

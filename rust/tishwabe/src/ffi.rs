@@ -55,6 +55,30 @@ mod library {
             start: &mut usize,
             length: &mut usize,
         ) -> usize;
+        pub fn tishwabe_look_block(
+            n: usize,
+            r: usize,
+            b: usize,
+            limit: usize,
+            depth: usize,
+            read: *const u8,
+            read_length: usize,
+            start: &mut usize,
+            length: &mut usize,
+        ) -> usize;
+        pub fn tishwabe_fill_block(
+            n: usize,
+            r: usize,
+            b: usize,
+            limit: usize,
+            depth: usize,
+            read: *const u8,
+            read_length: usize,
+            start: usize,
+            length: usize,
+            out: *mut u8,
+            out_length: usize,
+        ) -> usize;
         pub fn tishwabe_correct_spots(
             n: usize,
             r: usize,
@@ -196,6 +220,20 @@ pub fn correct_block(
         )
     };
     (number, first, second)
+}
+
+/// The refusal's number, or 0; then start and length of the run.
+pub fn look_block([n, r, b, limit, depth]: Numbers, read: &[u8]) -> (usize, usize, usize) {
+    let (mut start, mut length) = (UNWRITTEN, UNWRITTEN);
+    let (from, size) = (read.as_ptr(), read.len());
+    let number = unsafe { library::tishwabe_look_block(n, r, b, limit, depth, from, size, &mut start, &mut length) };
+    (number, start, length)
+}
+
+/// The refusal's number, or 0.
+pub fn fill_block([n, r, b, limit, depth]: Numbers, read: &[u8], start: usize, length: usize, out: &mut [u8]) -> usize {
+    let (from, to) = (read.as_ptr(), out.as_mut_ptr());
+    unsafe { library::tishwabe_fill_block(n, r, b, limit, depth, from, read.len(), start, length, to, out.len()) }
 }
 
 /// The refusal's number, or 0.

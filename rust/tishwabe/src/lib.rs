@@ -24,6 +24,8 @@
 //! # Ok::<(), Error>(())
 //! ```
 //!
+//! A block may be looked at before anything is written, [`Profile::look_block`], and filled within a run that is named, [`Profile::fill_block`].
+//!
 //! Damp film gets spots and no scratches: [`Profile::read_sheet_in`] with [`Mode::Spots`] corrects any h cells of each block, wherever they lie.
 #![deny(unsafe_code)]
 #![deny(missing_docs)]

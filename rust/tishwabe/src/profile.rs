@@ -11,7 +11,7 @@ pub struct Profile {
     h: usize,
 }
 
-/// The run of a corrected block: its first cell and its length, 0 and 0 for a clean block.
+/// A run of cells in a block: its first cell and its length. That of a clean block is 0 and 0.
 #[derive(Clone, Copy, Debug, PartialEq, Eq, Hash)]
 pub struct Run {
     /// The first cell.
@@ -149,6 +149,55 @@ impl Profile {
     pub fn correct_block(&self, read: &[u8], out: &mut [u8]) -> Result<Run, Error> {
         let (number, start, length) = ffi::correct_block(Mode::Burst, self.numbers, read, out);
         accepted(number, 0, Run { start, length })
+    }
+
+    /// Looks at a block in scratch mode and writes nothing: n cells read, and the run or the refusal that [`Profile::correct_block`] answers with
+    /// an `out` of n bytes. [`Profile::fill_block`] with that run then writes the same cells.
+    ///
+    /// ```
+    /// use tishwabe::{Error, Profile, Run};
+    /// let profile = Profile::new(4, 3, 0, 2, 1)?;
+    /// let read = [8, 15, 6, 1];
+    /// let run = profile.look_block(&read)?;
+    /// assert_eq!(run, Run { start: 1, length: 2 });
+    /// let mut out = [0; 4];
+    /// profile.fill_block(&read, run, &mut out)?;
+    /// assert_eq!(out, [8, 14, 7, 1]);
+    /// assert_eq!(profile.look_block(&[8, 14, 7, 1]), Ok(Run { start: 0, length: 0 }));
+    /// assert_eq!(profile.look_block(&[8, 14, 0, 0]), Err(Error::Ambiguous { block: 0 }));
+    /// assert_eq!(profile.look_block(&[9, 14, 7, 0]), Err(Error::Uncorrectable { block: 0 }));
+    /// # Ok::<(), Error>(())
+    /// ```
+    pub fn look_block(&self, read: &[u8]) -> Result<Run, Error> {
+        let (number, start, length) = ffi::look_block(self.numbers, read);
+        accepted(number, 0, Run { start, length })
+    }
+
+    /// Fills a run of a block: n cells read, and the one codeword that agrees with them outside the run written to the n bytes of `out`. Any
+    /// run within the block of at most r − 1 cells may be named, the empty one at cell n too; L has no effect. Any other start and length is
+    /// [`Error::BadSpan`], however large they are. [`Error::Uncorrectable`] says that this one run reaches no codeword. A refusal leaves `out` as
+    /// it was.
+    ///
+    /// ```
+    /// use tishwabe::{Error, Profile, Run};
+    /// let profile = Profile::new(4, 3, 0, 0, 1)?;
+    /// // Two cells from each of two codewords: the run named decides.
+    /// let read = [8, 14, 0, 0];
+    /// let mut out = [9; 4];
+    /// profile.fill_block(&read, Run { start: 2, length: 2 }, &mut out)?;
+    /// assert_eq!(out, [8, 14, 7, 1]);
+    /// profile.fill_block(&read, Run { start: 0, length: 2 }, &mut out)?;
+    /// assert_eq!(out, [0; 4]);
+    ///
+    /// let torn = Err(Error::Uncorrectable { block: 0 });
+    /// assert_eq!(profile.fill_block(&read, Run { start: 1, length: 2 }, &mut out), torn);
+    /// assert_eq!(profile.fill_block(&read, Run { start: 4, length: 0 }, &mut out), torn);
+    /// assert_eq!(profile.fill_block(&read, Run { start: 4, length: 1 }, &mut out), Err(Error::BadSpan));
+    /// assert_eq!(profile.fill_block(&read, Run { start: 0, length: 3 }, &mut out), Err(Error::BadSpan));
+    /// # Ok::<(), Error>(())
+    /// ```
+    pub fn fill_block(&self, read: &[u8], run: Run, out: &mut [u8]) -> Result<(), Error> {
+        accepted(ffi::fill_block(self.numbers, read, run.start, run.length, out), 0, ())
     }
 
     /// Corrects a block in spot mode: n cells read, and the one codeword that differs in at most h cells, wherever they lie, written to the n

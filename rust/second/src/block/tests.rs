@@ -10,21 +10,22 @@ fn refused<T>(number: u8) -> Result<T, Refusal> {
     refuse(number, 0)
 }
 
+/// What the corrector answers, with a second buffer of the block's length, and what it leaves there. The look answers the same.
+fn corrected(profile: &Profile, read: &[u8]) -> (Result<Run, Refusal>, Vec<u8>) {
+    let mut cells = vec![UNTOUCHED; read.len()];
+    let result = correct(profile, read, &mut cells);
+    assert_eq!(look(profile, read), result);
+    (result, cells)
+}
+
 #[test]
 fn document_01_bench_sheet_of_corrections() {
     for case in cases::corrections() {
-        let mut corrected = [UNTOUCHED; 4];
-        let result = correct(&case.profile, &case.read, &mut corrected);
-        match case.expected {
-            Ok((codeword, start, length)) => {
-                assert_eq!(result, Ok(Run { start, length }));
-                assert_eq!(corrected, codeword);
-            }
-            Err(number) => {
-                assert_eq!(result, refused(number));
-                assert_eq!(corrected, [UNTOUCHED; 4]);
-            }
-        }
+        let due = match case.expected {
+            Ok((codeword, start, length)) => (Ok(Run { start, length }), codeword),
+            Err(number) => (refused(number), [UNTOUCHED; 4]),
+        };
+        assert_eq!(corrected(&case.profile, &case.read), (due.0, due.1.to_vec()));
     }
 }
 
@@ -52,6 +53,7 @@ fn profile_range_comes_first() {
         let mut cells = [UNTOUCHED; 9];
         for length in [0, 4, 9] {
             assert_eq!(is_codeword(&profile, &cells[..length]), refused(PROFILE_RANGE));
+            assert_eq!(look(&profile, &cells[..length]), refused(PROFILE_RANGE));
             assert_eq!(write(&profile, &[1], &mut cells[..length]), refused(PROFILE_RANGE));
             assert_eq!(correct(&profile, &[0; 4], &mut cells[..length]), refused(PROFILE_RANGE));
         }
@@ -87,8 +89,10 @@ fn lengths_come_second() {
             refused(BUFFER_LENGTH)
         );
     }
-    assert_eq!(is_codeword(&profile, &[0; 3]), refused(BUFFER_LENGTH));
-    assert_eq!(is_codeword(&profile, &[0; 5]), refused(BUFFER_LENGTH));
+    for length in [0, 3, 5] {
+        assert_eq!(is_codeword(&profile, &vec![0; length]), refused(BUFFER_LENGTH));
+        assert_eq!(look(&profile, &vec![0; length]), refused(BUFFER_LENGTH));
+    }
     assert_eq!(cells, [UNTOUCHED; 9]);
 }
 
@@ -137,14 +141,10 @@ fn agrees_with_listing_all_codewords() {
         for _ in 0..round % 4 {
             read[random.between(0, r)] = random.byte();
         }
-        let mut corrected = vec![UNTOUCHED; r + 1];
-        let result = correct(&profile, &read, &mut corrected);
+        let (result, cells) = corrected(&profile, &read);
         let expected = by_listing(&profile, &read);
         assert_eq!(result, expected.clone().map(|(run, _)| run));
-        assert_eq!(
-            corrected,
-            expected.map_or(vec![UNTOUCHED; r + 1], |(_, codeword)| codeword)
-        );
+        assert_eq!(cells, expected.map_or(vec![UNTOUCHED; r + 1], |(_, codeword)| codeword));
         counts[result.map_or_else(|refusal| usize::from(refusal.number), |_| 0)] += 1;
     }
     assert!(counts[0] > 50 && counts[3] > 50 && counts[4] > 10, "{counts:?}");
@@ -200,9 +200,10 @@ fn runs_up_to_h_come_back() {
             let mut read = codeword.clone();
             read[start] ^= random.nonzero();
             read[start + length - 1] = codeword[start + length - 1] ^ random.nonzero();
-            let mut corrected = vec![UNTOUCHED; n];
-            assert_eq!(correct(&profile, &read, &mut corrected), Ok(Run { start, length }));
-            assert_eq!(corrected, codeword);
+            assert_eq!(
+                corrected(&profile, &read),
+                (Ok(Run { start, length }), codeword.clone())
+            );
         }
     }
 }

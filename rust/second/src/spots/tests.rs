@@ -3,6 +3,7 @@
 use super::*;
 use crate::block::write;
 use crate::cases;
+use crate::codewords::all_codewords;
 use crate::generator::generator;
 use crate::random::Random;
 use crate::refusal::{BUFFER_LENGTH, PROFILE_RANGE};
@@ -24,24 +25,6 @@ fn due(profile: &Profile, read: &[u8], nearest: Option<&[u8]>) -> Outcome {
         Some(codeword) => (Ok(changes(read, codeword)), codeword.to_vec()),
         None => (refuse(NO_CODEWORD_NEAR, 0), vec![UNTOUCHED; profile.n]),
     }
-}
-
-/// All words that differ from no codeword: every combination of the blocks of unit messages.
-fn all_codewords(profile: &Profile) -> Vec<Vec<u8>> {
-    let mut codewords = vec![vec![0; profile.n]];
-    for cell in 0..profile.k() {
-        let mut message = vec![0; profile.k()];
-        message[cell] = 1;
-        let mut unit = vec![0; profile.n];
-        write(profile, &message, &mut unit).unwrap();
-        let multiple = |factor: u8| unit.iter().map(move |&x| product(factor, x));
-        let sum = |codeword: &Vec<u8>, factor| codeword.iter().zip(multiple(factor)).map(|(x, y)| x ^ y).collect();
-        codewords = codewords
-            .iter()
-            .flat_map(|codeword| (0..=255).map(move |factor| sum(codeword, factor)))
-            .collect();
-    }
-    codewords
 }
 
 fn distance(x: &[u8], y: &[u8]) -> usize {

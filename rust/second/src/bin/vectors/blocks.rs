@@ -128,25 +128,30 @@ pub fn neighbour((n, r, b): Size, random: &mut Random) -> (usize, Vec<u8>) {
     (start, cells)
 }
 
-/// Blocks as near to one as to another of two codewords that differ in r+1 neighbouring cells, with L at
-/// that length (document 01: tied) and one below it.
+/// A block as near to one as to another of two codewords that differ in r+1 neighbouring cells, and the first of these cells: the h+1 from it on
+/// lead to one codeword, the last h+1 of the r+1 to the other.
+pub fn between_two(profile: &Profile, random: &mut Random) -> (Vec<u8>, usize) {
+    let (r, h) = (profile.r, profile.h());
+    let mut cells = codeword(profile, random);
+    let (start, difference) = neighbour((profile.n, r, profile.b), random);
+    for i in 0..=h {
+        cells[start + i] ^= difference[i];
+    }
+    if r % 2 == 0 {
+        // The middle cell agrees with neither codeword.
+        cells[start + h] ^= if difference[h] == 1 { 2 } else { 1 };
+    }
+    (cells, start)
+}
+
+/// Such blocks, with L at that length (document 01: tied) and one below it.
 fn ambiguous_inputs(random: &mut Random) -> Vec<Input> {
     let mut inputs = Vec::new();
     for size in NEIGHBOUR_SIZES {
         let (n, r, _) = size;
-        let h = r / 2;
-        for limit in [h, h + 1] {
+        for limit in [r / 2, r / 2 + 1] {
             let profile = profile(size, limit, 1);
-            let mut cells = codeword(&profile, random);
-            let (start, difference) = neighbour(size, random);
-            for i in 0..=h {
-                cells[start + i] ^= difference[i];
-            }
-            if r % 2 == 0 {
-                // The middle cell agrees with neither codeword.
-                cells[start + h] ^= if difference[h] == 1 { 2 } else { 1 };
-            }
-            inputs.push((profile, cells, n));
+            inputs.push((profile, between_two(&profile, random).0, n));
         }
     }
     inputs

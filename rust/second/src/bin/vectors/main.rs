@@ -6,7 +6,7 @@
 //!     vectors lists --input I  input number I (from 0) of the kind `lists`, as it stands
 //!     vectors lister           reads the lister's standard input and prints the lister's text
 //!
-//! In a line of text a buffer is `| length bytes |`. In the stream a word is two bytes, low first, and a
+//! In a line of text a buffer is `| length bytes |`. In the stream a word is two bytes, low first, a long is eight, and a
 //! buffer is a word for its length and then its bytes. The stream has no header and ends with its last vector.
 //! A profile is five words: n, r, b, L, D. Number 0 means accepted; else it is the refusal's number. Figure and line are document 02's for a
 //! fault in a tally line, and 0 and 0 in every other answer.
@@ -32,13 +32,19 @@
 //!                                                             buffer's bytes at exit
 //!             byte 1, then as sheets after its byte 1, in     as there
 //!             spot mode
+//! fills       byte 0, profile, buffer read block: the look    number; start; length of the run (0 and 0 if refused)
+//!             byte 1, profile, buffer read block, long        number; the second buffer's bytes at exit
+//!             start, long length, word length of the second
+//!             buffer (each byte 170 at entry): the fill
 //! library     as block; then as sheets, with bytes 3 and 4;   as there
 //!             then as plots, with bytes 5, 6 and 7; then as
-//!             spots, with bytes 8 and 9
+//!             spots, with bytes 8 and 9; then as fills, with
+//!             bytes 10 and 11
 //! lists       buffer standard input                           length of the text; its bytes
 //! generators  word b, word r                                  the r+1 coefficients, lowest first
 
 mod blocks;
+mod fills;
 mod plots;
 mod sheets;
 mod spots;
@@ -55,6 +61,7 @@ fn vectors(kind: &str) -> Option<Vec<Vector>> {
         "block" => Some(blocks::operations()),
         "sheets" => Some(sheets::sheets()),
         "spots" => Some(spots::spots()),
+        "fills" => Some(fills::fills()),
         "library" => Some(library()),
         "plots" => Some(plots::plots()),
         "lists" => Some(sheets::lists()),
@@ -69,6 +76,7 @@ fn library() -> Vec<Vector> {
     vectors.extend(counted_from(3, sheets::sheets()));
     vectors.extend(counted_from(5, plots::plots()));
     vectors.extend(counted_from(8, spots::spots()));
+    vectors.extend(counted_from(10, fills::fills()));
     vectors
 }
 
@@ -109,7 +117,7 @@ fn main() -> io::Result<()> {
         Some(bytes) => io::stdout().write_all(&bytes),
         None => {
             eprintln!(
-                "vectors blocks|writes|checks|block|sheets|spots|library|plots|lists|generators [--bytes|--answers]"
+                "vectors blocks|writes|checks|block|sheets|spots|fills|library|plots|lists|generators [--bytes|--answers]"
             );
             std::process::exit(2)
         }
@@ -125,7 +133,7 @@ mod tests {
     /// Each kind has an accepted vector and one for each refusal that its entries can give.
     #[test]
     fn every_number_occurs() {
-        let expected: [(&str, &[usize]); 8] = [
+        let expected: [(&str, &[usize]); 9] = [
             ("blocks", &[0, 1, 2, 3, 4]),
             ("writes", &[0, 1, 2]),
             ("checks", &[0, 1, 2]),
@@ -133,11 +141,25 @@ mod tests {
             ("sheets", &[0, 1, 2, 3, 4]),
             ("plots", &[0, 2, 5, 6, 7, 8, 9, 10]),
             ("spots", &[0, 1, 2, 11]),
-            ("library", &[0, 1, 2, 3, 4, 5, 6, 7, 8, 9, 10, 11]),
+            ("fills", &[0, 1, 2, 3, 4, 12]),
+            ("library", &[0, 1, 2, 3, 4, 5, 6, 7, 8, 9, 10, 11, 12]),
         ];
         for (kind, numbers) in expected {
             let found: BTreeSet<usize> = vectors(kind).unwrap().iter().map(|vector| vector.answer[0]).collect();
             assert_eq!(found, numbers.iter().copied().collect());
+        }
+    }
+
+    /// Of the look every number but 12, of the fill every number but 4: there a tied block goes to the codeword of the run named.
+    #[test]
+    fn every_number_of_look_and_fill_occurs() {
+        for (operation, numbers) in [(0, [0, 1, 2, 3, 4]), (1, [0, 1, 2, 3, 12])] {
+            let told = |vector: &Vector| match vector.fields[0] {
+                Field::Byte(number) if number == operation => Some(vector.answer[0]),
+                _ => None,
+            };
+            let found: BTreeSet<usize> = vectors("fills").unwrap().iter().filter_map(told).collect();
+            assert_eq!(found, BTreeSet::from(numbers), "{operation}");
         }
     }
 
