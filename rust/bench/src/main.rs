@@ -1,15 +1,20 @@
 //! Times the proved library beside a logarithm-table coder and libfec in one run, and how its times grow with n, r and D. Writes the
-//! measured part of docs/PERFORMANCE.md and the plot docs/performance.svg; with the argument `show` it only prints.
+//! measured part of docs/PERFORMANCE.md and the plot docs/performance.svg; with the argument `show` it only prints. With the arguments `former`
+//! and a file, it prints the library's times beside those of a former commit's library, which the file has as a shared object.
 
 mod date;
+mod former;
 mod plot;
 mod report;
+mod shared_object;
 mod sheets;
 mod spots;
 mod timing;
 
 use bench::Shape;
+use shared_object::SharedObject;
 use std::path::Path;
+use std::process::ExitCode;
 
 const SHAPES: [(usize, usize); 4] = [(255, 16), (255, 32), (255, 64), (60, 20)];
 
@@ -33,18 +38,46 @@ fn spot_growth() -> String {
     report::growth(&spots::measure(shape, &[0, 1, h / 4, h / 2, h], BLOCKS, ROUNDS))
 }
 
-fn main() {
-    let table = format!(
+/// The tables of docs/PERFORMANCE.md.
+fn tables() -> String {
+    format!(
         "{}\nOne block again and again, instead of {BLOCKS} in turn:\n\n{}\nSpot mode at n = 255, r = 32 by the number of wrong cells, {BLOCKS} blocks in turn:\n\n{}",
         compared(&SHAPES, BLOCKS),
         compared(&[(255, 32)], 1),
         spot_growth()
-    );
-    println!("{table}");
-    if std::env::args().nth(1).as_deref() == Some("show") {
-        return;
-    }
+    )
+}
+
+fn write(tables: &str) {
     let docs = Path::new(env!("CARGO_MANIFEST_DIR")).join("../../docs");
-    report::replace(&docs.join("PERFORMANCE.md"), &format!("{}\n{table}", report::machine()));
+    report::replace(
+        &docs.join("PERFORMANCE.md"),
+        &format!("{}\n{tables}", report::machine()),
+    );
     std::fs::write(docs.join("performance.svg"), plot::growth()).expect("docs/ can be written");
+}
+
+fn main() -> ExitCode {
+    let arguments: Vec<String> = std::env::args().skip(1).collect();
+    let arguments: Vec<&str> = arguments.iter().map(String::as_str).collect();
+    match arguments[..] {
+        [] => {
+            let tables = tables();
+            println!("{tables}");
+            write(&tables);
+        }
+        ["show"] => println!("{}", tables()),
+        ["former", path] => match SharedObject::open(Path::new(path)) {
+            Ok(former) => println!("{}", former::table(&former)),
+            Err(error) => {
+                eprintln!("{path}: {error}");
+                return ExitCode::FAILURE;
+            }
+        },
+        _ => {
+            eprintln!("the arguments are none, `show`, or `former` and a file");
+            return ExitCode::FAILURE;
+        }
+    }
+    ExitCode::SUCCESS
 }

@@ -1,7 +1,9 @@
 //! The proved library, through its wrapper. Each call takes the profile anew and builds the generator.
 
+use std::ops::Range;
+
 use crate::{Coder, Shape};
-use tishwabe::Profile;
+use tishwabe::{Profile, Run};
 
 pub struct Proved(Profile);
 
@@ -27,6 +29,15 @@ impl Coder for Proved {
 
     fn correct(&mut self, read: &[u8], out: &mut [u8]) -> Option<bool> {
         Some(self.0.correct_block(read, out).is_ok())
+    }
+
+    fn look(&mut self, read: &[u8]) -> Option<bool> {
+        Some(self.0.look_block(read).is_ok())
+    }
+
+    fn fill(&mut self, read: &[u8], run: Range<usize>, out: &mut [u8]) -> Option<bool> {
+        let (start, length) = (run.start, run.len());
+        Some(self.0.fill_block(read, Run { start, length }, out).is_ok())
     }
 
     fn correct_spots(&mut self, read: &[u8], out: &mut [u8]) -> Option<bool> {

@@ -19,10 +19,12 @@ pub fn table(compared: &[(Shape, Vec<Times>)]) -> String {
     let mut text =
         String::from("| n | r | work | coder | time, µs | times the proved library's |\n|---|---|---|---|---|---|\n");
     for (shape, times) in compared {
-        let works: [Work; 5] = [
+        let works: [Work; 7] = [
             ("writing".into(), |t| Some(t.write)),
             ("checking a clean block".into(), |t| Some(t.check)),
             (format!("correcting a run of {}", shape.half()), |t| t.correct),
+            (format!("looking at a run of {}", shape.half()), |t| t.look),
+            (format!("filling a run of {}", shape.half()), |t| t.fill),
             ("a clean block in spot mode".into(), |t| t.spots_clean),
             (format!("correcting {} spots", shape.half()), |t| t.spots),
         ];

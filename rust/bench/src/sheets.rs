@@ -9,11 +9,17 @@ use tishwabe::{Mode, Profile};
 use crate::timing::{median, nanoseconds};
 
 /// A payload, its sheet, and the sheet with a scratch and with spots.
-struct Sheet {
-    payload: Vec<u8>,
-    clean: Vec<u8>,
-    scratched: Vec<u8>,
-    spots: Vec<u8>,
+pub struct Sheet {
+    pub payload: Vec<u8>,
+    pub clean: Vec<u8>,
+    pub scratched: Vec<u8>,
+    pub spots: Vec<u8>,
+}
+
+/// Sixteen different sheets.
+pub fn sheets(profile: Profile) -> Vec<Sheet> {
+    let mut random = Random::new(11);
+    (0..16).map(|_| sheet(profile, &mut random)).collect()
 }
 
 fn sheet(profile: Profile, random: &mut Random) -> Sheet {
@@ -43,8 +49,7 @@ fn sheet(profile: Profile, random: &mut Random) -> Sheet {
 /// Nanoseconds of writing, of reading clean, of reading scratched sheets, and of sheets with spots, of D blocks of n = 255, r = 32.
 pub fn measure(depth: usize, rounds: usize) -> [f64; 4] {
     let profile = Profile::new(255, 32, 1, 16, depth).expect("the profile is in range");
-    let mut random = Random::new(11);
-    let sheets: Vec<Sheet> = (0..16).map(|_| sheet(profile, &mut random)).collect();
+    let sheets = sheets(profile);
     let mut written = vec![0; profile.sheet_length()];
     let mut scratch = vec![0; profile.sheet_length()];
     let mut payload = vec![0; profile.payload_length()];

@@ -18,6 +18,8 @@ pub struct Times {
     pub write: f64,
     pub check: f64,
     pub correct: Option<f64>,
+    pub look: Option<f64>,
+    pub fill: Option<f64>,
     /// A clean block in spot mode.
     pub spots_clean: Option<f64>,
     pub spots: Option<f64>,
@@ -28,7 +30,7 @@ struct Bench {
     coder: Box<dyn Coder>,
     blocks: Vec<Block>,
     out: Vec<u8>,
-    samples: [Vec<f64>; 5],
+    samples: [Vec<f64>; 7],
 }
 
 impl Bench {
@@ -37,11 +39,17 @@ impl Bench {
             blocks: blocks.iter().map(|block| block.given_to(&mut *coder)).collect(),
             coder,
             out: vec![0; shape.n],
-            samples: [const { vec![] }; 5],
+            samples: [const { vec![] }; 7],
         }
     }
 
     fn round(&mut self) {
+        self.round_in_scratch_mode();
+        self.round_in_spot_mode();
+    }
+
+    /// Writing and checking too, which have no mode.
+    fn round_in_scratch_mode(&mut self) {
         let Bench {
             coder,
             blocks,
@@ -58,12 +66,28 @@ impl Bench {
             assert_ne!(coder.correct(black_box(&block.run), black_box(out)), Some(false))
         }));
         samples[3].push(nanoseconds(blocks, |block| {
+            assert_ne!(coder.look(black_box(&block.run)), Some(false))
+        }));
+        samples[4].push(nanoseconds(blocks, |block| {
+            let read = black_box(&block.run);
+            assert_ne!(coder.fill(read, block.wrong.clone(), black_box(out)), Some(false))
+        }));
+    }
+
+    fn round_in_spot_mode(&mut self) {
+        let Bench {
+            coder,
+            blocks,
+            out,
+            samples,
+        } = self;
+        samples[5].push(nanoseconds(blocks, |block| {
             assert_ne!(
                 coder.correct_spots(black_box(&block.clean), black_box(out)),
                 Some(false)
             )
         }));
-        samples[4].push(nanoseconds(blocks, |block| {
+        samples[6].push(nanoseconds(blocks, |block| {
             assert_ne!(
                 coder.correct_spots(black_box(&block.spots), black_box(out)),
                 Some(false)
@@ -72,14 +96,20 @@ impl Bench {
     }
 
     fn times(mut self) -> Times {
-        let corrects = self.coder.correct(&self.blocks[0].run, &mut self.out).is_some();
-        let has_spots = self.coder.correct_spots(&self.blocks[0].spots, &mut self.out).is_some();
-        let [write, check, correct, spots_clean, spots] = self.samples.map(median);
+        let Bench { coder, blocks, out, .. } = &mut self;
+        let block = &blocks[0];
+        let corrects = coder.correct(&block.run, out).is_some();
+        let looks = coder.look(&block.run).is_some();
+        let fills = coder.fill(&block.run, block.wrong.clone(), out).is_some();
+        let has_spots = coder.correct_spots(&block.spots, out).is_some();
+        let [write, check, correct, look, fill, spots_clean, spots] = self.samples.map(median);
         Times {
             name: self.coder.name(),
             write,
             check,
             correct: corrects.then_some(correct),
+            look: looks.then_some(look),
+            fill: fills.then_some(fill),
             spots_clean: has_spots.then_some(spots_clean),
             spots: has_spots.then_some(spots),
         }
@@ -87,17 +117,27 @@ impl Bench {
 }
 
 /// Nanoseconds of a call, over `CALLS` calls that take the inputs in turn.
-pub fn nanoseconds<T>(inputs: &[T], mut call: impl FnMut(&T)) -> f64 {
-    let begin = Instant::now();
-    for input in inputs.iter().cycle().take(CALLS) {
-        call(input);
-    }
-    begin.elapsed().as_nanos() as f64 / CALLS as f64
+pub fn nanoseconds<T>(inputs: &[T], call: impl FnMut(&T)) -> f64 {
+    nanoseconds_over(CALLS, inputs, call)
 }
 
-pub fn median(mut samples: Vec<f64>) -> f64 {
+/// The same over so many calls.
+pub fn nanoseconds_over<T>(calls: usize, inputs: &[T], mut call: impl FnMut(&T)) -> f64 {
+    let begin = Instant::now();
+    for input in inputs.iter().cycle().take(calls) {
+        call(input);
+    }
+    begin.elapsed().as_nanos() as f64 / calls as f64
+}
+
+pub fn median(samples: Vec<f64>) -> f64 {
+    quantile(samples, 0.5)
+}
+
+/// The sample that has this part of the others below it.
+pub fn quantile(mut samples: Vec<f64>, part: f64) -> f64 {
     samples.sort_by(f64::total_cmp);
-    samples[samples.len() / 2]
+    samples[(samples.len() as f64 * part) as usize]
 }
 
 /// The times of every linked coder over so many different blocks.
