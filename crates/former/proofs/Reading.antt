@@ -12,7 +12,7 @@ use Rattle.plot.specs.declared.LineCheck.the-variants.{Holds, Order}
 use Rattle.plot.specs.declared.Step.{Step}
 use Rattle.plot.specs.declared.Step.the-variants.{Record, End, Refused}
 use Rattle.plot.specs.Layout.{Plot, mark, headerLength, plotOf, countOf, recordLength, lineOf, noLine, within, rises, lineCheck, holds, lineHolds, linesHold}
-use Rattle.plot.specs.Grammar.{allZero, agree, headAt, stepAt, Parsed, Plots, Stopped, onto, readStep, readFrom, longest, reading}
+use Rattle.plot.specs.Grammar.{allZero, agree, headAt, stepAt, Parsed, Plots, Stopped, onto, lateChecked, readStep, readFrom, longest, reading}
 use Rattle.plot.specs.Numbers.{numberOf, placeOf}
 use Rattle.plot.proofs.Lines.{hold-none, hold-first}
 use Rattle.former.specs.Former.{Former, accepted, refused, formerLineHolds, formerLinesHold, formerHeadAt, formerStepAt}
@@ -78,15 +78,16 @@ onto-as-before p (Stopped r) = refl
 -- one step, where the rest is read as before
 module _ (rest : ℕ → ℕ → List ℕ → Parsed) (formerRest : ℕ → ℕ → List ℕ → Former PlotsRead)
     (same : (at last : ℕ) (s : List ℕ) → read (rest at last s) ≡ formerRest at last s) where
-  read-step-as-before : (at last : ℕ) (s : List ℕ) (step : Step) → read (readStep rest at last s step) ≡ formerReadStep formerRest at last s (standing step)
-  unfolding readStep formerReadStep
+  read-step-as-before : (at last : ℕ) (s : List ℕ) (step : Step) → read (readStep rest at s (lateChecked at last s step)) ≡ formerReadStep formerRest at last s (standing step)
+  unfolding lateChecked readStep formerReadStep
   read-step-as-before at last s End = refl
   read-step-as-before at last s (Refused r) = refl
   read-step-as-before at last s (Record from count next) =
       let here : Plot = record { number = next .last; lines = take (count * 3) (drop headerLength s) } in
       let after : List ℕ = drop (recordLength count) s in
-      through-equal read (ap not (lines-as-before count noLine (drop headerLength s))) refl
-      (through read (leb (next .last) last) refl
+      let onward : Step → Former PlotsRead = λ step. read (readStep rest at s step) in
+      through-equal onward (ap not (lines-as-before count noLine (drop headerLength s))) refl
+      (through onward (leb (next .last) last) refl
       (onto-as-before here (rest (next .at) (next .last) after) ∙ ap (formerOnto here) (same (next .at) (next .last) after)))
 
 pub read-as-before : (steps at last : ℕ) (s : List ℕ) → read (readFrom steps at last s) ≡ formerReadFrom steps at last s

@@ -1,20 +1,19 @@
 -- The texts line by line and plot by plot, as the loops write them: a line of a payload's record, and a record of an accepted payload.
 use Prim.Native.Nat.{ℕ, zero, suc, _+_, _*_, _-_, _<_, _≤_}
 use native.Mathlib.Omega.{arith}
-use native.Mathlib.Nat.{le-refl}
 use mathlib.Core.Path.{_≡_, refl, sym, ap, _∙_}
 use mathlib.Core.List.{List, [], _∷_, _++_}
-use lib.ListN.{length, take, drop, take-append-drop}
+use lib.ListN.{length, drop}
 use lib.Seq.{drop-drop}
-use Rattle.plot.specs.Layout.{Plot, headerLength, lineOf}
+use Rattle.plot.specs.Layout.{Plot, lineOf, linesOf, tallies}
 use Rattle.plot.specs.Grammar.{stepAt, Parsed, Plots, Stopped, readFrom}
 use Rattle.plot.specs.Numbers.{numberOf, placeOf}
 use Rattle.plot.specs.declared.Line.{Line}
 use Rattle.plot.specs.declared.Cursor.{Cursor}
 use Rattle.plot.specs.declared.Refusal.{Refusal}
 use Rattle.plot.specs.declared.Step.the-variants.{Record}
-use Rattle.plot.proofs.Cases.{bounds, past-header}
-use Rattle.plot.proofs.Accepts.{lines-here, count-here}
+use Rattle.plot.proofs.Accepts.{here}
+use Rattle.plot.proofs.Tallies.{tallies-here}
 use Rattle.plot.proofs.Entries.{go}
 use Rattle.listing_text.specs.Text.{newline, field, header, mended, lineText, linesText, plotsText, plotLines, refusalText, listingText}
 
@@ -40,16 +39,15 @@ lines-first plot k s from =
     let y : from + 0 * 3 ≡ from = omega arith in
     rw (z, y)
 
--- lines are written from their own bytes
-text-prefix : (plot k : ℕ) (l r : List ℕ) → k * 3 ≤ length l → linesText plot k (l ++ r) ≡ linesText plot k l
-unfolding linesText
-text-prefix plot zero l r h = refl
-text-prefix plot (suc k) [] r h = absurd (let z : suc k * 3 ≤ 0 = h in omega arith)
-text-prefix plot (suc k) (x ∷ []) r h = absurd (let z : suc k * 3 ≤ 1 = h in omega arith)
-text-prefix plot (suc k) (x ∷ y ∷ []) r h = absurd (let z : suc k * 3 ≤ 2 = h in omega arith)
-text-prefix plot (suc k) (x ∷ y ∷ z ∷ l) r h =
-    let g : suc k * 3 ≤ suc (suc (suc (length l))) = h in
-    ap (λ (t : List ℕ). lineText plot (record { species = x; class = y; count = z }) ++ t) (text-prefix plot k l r (omega arith))
+-- the lines of a plot are the text of its tally lines
+tallyText : ℕ → List Line → List ℕ
+tallyText plot [] = []
+tallyText plot (line ∷ ls) = lineText plot line ++ tallyText plot ls
+
+tally-text : (plot k : ℕ) (s : List ℕ) → linesText plot k s ≡ tallyText plot (tallies k s)
+unfolding linesText tallies tallyText
+tally-text plot zero s = refl
+tally-text plot (suc k) s = ap (λ (t : List ℕ). lineText plot (lineOf s) ++ t) (tally-text plot k (drop 3 s))
 
 -- a record of an accepted payload, and the plots after it
 module _ (s : List ℕ) (at last f from count : ℕ) (next : Cursor) (e : stepAt at (drop at s) ≡ Record from count next) (h : length s ≤ at + f)
@@ -60,13 +58,10 @@ module _ (s : List ℕ) (at last f from count : ℕ) (next : Cursor) (e : stepAt
   pub plots-next : plotsText ps ≡ linesText (next .last) count (drop from s) ++ plotsText rest
   unfolding plotsText
   plots-next =
-      let d = drop headerLength (drop at s) in
-      let k = lines-here at last (drop at s) from count next e in
+      let p = here at last (drop at s) from count next e in
       ap plotsText (go s at last f from count next e h ps end q .is)
-      ∙ ap (λ (n : ℕ). linesText (next .last) n (take (count * 3) d) ++ plotsText rest) (count-here at last (drop at s) from count next e)
       ∙ ap (λ (t : List ℕ). t ++ plotsText rest)
-      (sym (text-prefix (next .last) count (take (count * 3) d) (drop (count * 3) d) (rw k (le-refl _)))
-      ∙ ap (linesText (next .last) count) (take-append-drop (count * 3) d ∙ past-header at from s (bounds s at last f from count next e .lines-at)))
+      (tally-text (next .last) (linesOf p) (p .lines) ∙ ap (tallyText (next .last)) (tallies-here s at last from count next e) ∙ sym (tally-text (next .last) count (drop from s)))
 
 pub plots-none : (ps : List Plot) → ps ≡ [] → plotsText ps ≡ []
 unfolding plotsText

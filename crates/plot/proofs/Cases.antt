@@ -20,7 +20,7 @@ use Rattle.plot.specs.declared.Step.the-variants.{Record, End, Refused}
 use Rattle.plot.specs.declared.Checked.the-variants as checked-as
 use Rattle.lists.specs.Choice.{pick}
 use Rattle.plot.specs.Layout.{Plot, mark, headerLength, plotOf, countOf, recordLength, noLine, figureNumber, linesCheck, linesHold}
-use Rattle.plot.specs.Grammar.{allZero, agree, badLine, outsideLine, headAt, stepAt, Parsed, Plots, Stopped, onto, readStep, readFrom, longest, reading}
+use Rattle.plot.specs.Grammar.{allZero, agree, badLine, outsideLine, headAt, stepAt, Parsed, Plots, Stopped, onto, lateChecked, readStep, readFrom, longest, reading}
 use Rattle.plot.specs.Answers.{checkedOf}
 use Rattle.plot.proofs.Lines.{not-held, all-held}
 
@@ -186,12 +186,12 @@ whole at s from count next e =
 -- the reading from a place on
 module _ (at last : ℕ) (s : List ℕ) where
   pub read-end : (f : ℕ) → stepAt at s ≡ End → readFrom f at last s ≡ Plots [] at
-  unfolding readFrom readStep
+  unfolding readFrom readStep lateChecked
   read-end zero e = refl
   read-end (suc f) e = rw e
 
   pub read-refused : (f : ℕ) (r : Refusal) → length s ≤ f → stepAt at s ≡ Refused r → readFrom f at last s ≡ Stopped r
-  unfolding readFrom readStep
+  unfolding readFrom readStep lateChecked
   read-refused zero r h e = absurd (let z : 0 < length s = refused-some at s r e in omega arith)
   read-refused (suc f) r h e = rw e
 
@@ -201,19 +201,19 @@ module _ (at last : ℕ) (s : List ℕ) where
 
     pub read-lines : (f : ℕ) → 0 < f → linesHold noLine count (drop headerLength s) ≡ false
         → readFrom f at last s ≡ Stopped (badLine at (linesCheck noLine 0 count (drop headerLength s)))
-    unfolding readFrom readStep
+    unfolding readFrom readStep lateChecked
     read-lines zero h g = absurd (not-suc-le-zero h)
     read-lines (suc f) h g = rw (e, g)
 
     module _ (g : linesHold noLine count (drop headerLength s) ≡ true) where
       pub read-order : (f : ℕ) → 0 < f → next .last ≤ last → readFrom f at last s ≡ Stopped (PlotOrder at)
-      unfolding readFrom readStep
+      unfolding readFrom readStep lateChecked
       read-order zero h o = absurd (not-suc-le-zero h)
       read-order (suc f) h o = rw (e, g, le-leb _ _ o)
 
       pub read-on : (f : ℕ) → 0 < f → last < next .last
           → readFrom f at last s ≡ onto plotHere (readFrom (f - 1) (next .at) (next .last) (drop (recordLength count) s))
-      unfolding readFrom readStep
+      unfolding readFrom readStep lateChecked
       read-on zero h o = absurd (not-suc-le-zero h)
       read-on (suc f) h o =
           let z : suc f - 1 ≡ f = omega arith in

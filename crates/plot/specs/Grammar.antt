@@ -49,6 +49,20 @@ headAt at s =
 unfoldable pub stepAt : ℕ → List ℕ → Step
 stepAt at s = pick (eqb (getD s 0 0) 0) (pick (allZero s) End (Refused (BadMark at))) (headAt at s)
 
+-- ".. the lines in turn ..; rise of plot numbers. The first failing check of the first failing record ends the reading.": the last checks of a record, where `last` is the
+-- number of the plot before it
+unfoldable pub lateChecked : ℕ → ℕ → List ℕ → Step → Step
+lateChecked at last s End = End
+lateChecked at last s (Refused r) = Refused r
+lateChecked at last s (Record from count next) =
+    pick (not (linesHold noLine count (drop headerLength s))) (Refused (badLine at (linesCheck noLine 0 count (drop headerLength s))))
+    (pick (leb (next .last) last) (Refused (PlotOrder at))
+    (Record from count next))
+
+-- what stands at a place, with every check of its record made
+abbrev pub recordAt : ℕ → ℕ → List ℕ → Step
+recordAt at last s = lateChecked at last s (stepAt at s)
+
 -- what a reading gives: all plots with the place after the last record, or the refusal that "ends the reading"
 pub data Parsed : Type 0 where
   Plots : List Plot → ℕ → Parsed
@@ -59,21 +73,17 @@ abbrev pub onto : Plot → Parsed → Parsed
 onto p (Plots ps end) = Plots (p ∷ ps) end
 onto p (Stopped r) = Stopped r
 
--- ".. the lines in turn ..; rise of plot numbers. The first failing check of the first failing record ends the reading.": what stands at the place,
--- then `rest` for the records after it
-unfoldable pub readStep : (ℕ → ℕ → List ℕ → Parsed) → ℕ → ℕ → List ℕ → Step → Parsed
-readStep rest at last s End = Plots [] at
-readStep rest at last s (Refused r) = Stopped r
-readStep rest at last s (Record from count next) =
-    pick (not (linesHold noLine count (drop headerLength s))) (Stopped (badLine at (linesCheck noLine 0 count (drop headerLength s))))
-    (pick (leb (next .last) last) (Stopped (PlotOrder at))
-    (onto (record { number = next .last; lines = take (count * 3) (drop headerLength s) })
-    (rest (next .at) (next .last) (drop (recordLength count) s))))
+-- what stands at the place, every check of its record made, then `rest` for the records after it
+unfoldable pub readStep : (ℕ → ℕ → List ℕ → Parsed) → ℕ → List ℕ → Step → Parsed
+readStep rest at s End = Plots [] at
+readStep rest at s (Refused r) = Stopped r
+readStep rest at s (Record from count next) =
+    onto (record { number = next .last; lines = take (count * 3) (drop headerLength s) }) (rest (next .at) (next .last) (drop (recordLength count) s))
 
 -- "A place in the payload moves on one record at a time." A record takes five bytes or more: as many steps as bytes are enough.
 unfoldable pub readFrom : ℕ → ℕ → ℕ → List ℕ → Parsed
 readFrom zero at last s = Plots [] at
-readFrom (suc steps) at last s = readStep (readFrom steps) at last s (stepAt at s)
+readFrom (suc steps) at last s = readStep (readFrom steps) at s (recordAt at last s)
 
 -- "A payload of 0 to 4,048 bytes": a longer one is refusal 2, before all others (E3)
 abbrev pub longest : ℕ

@@ -93,6 +93,14 @@ pub record Plot : Type 0 where
 abbrev pub linesOf : Plot → ℕ
 linesOf p = length (p .lines) / 3
 
+-- its tally lines in turn: `count` lines from the front of s on
+unfoldable pub tallies : ℕ → List ℕ → List Line
+tallies zero s = []
+tallies (suc count) s = lineOf s ∷ tallies count (drop 3 s)
+
+abbrev pub talliesOf : Plot → List Line
+talliesOf p = tallies (linesOf p) (p .lines)
+
 -- the header as written
 abbrev pub headerOf : ℕ → ℕ → List ℕ
 headerOf number count = mark ++ (number % 256 ∷ number / 256 ∷ count ∷ [])

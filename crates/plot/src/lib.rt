@@ -15,11 +15,12 @@ use tally::line_at;
 ghost use mathlib.Core.Path.{_≡_};
 ghost use Prim.Native.Nat.{_+_, _≤_};
 ghost use lib.ListN.{drop};
-ghost use Rattle.plot.specs.Grammar.{stepAt, reading, Readable};
+ghost use Rattle.plot.specs.Grammar.{stepAt, recordAt, reading, Readable};
 ghost use Rattle.plot.specs.Answers.{checked, located, asked, roomFor, added, payloadWith};
 ghost use Rattle.plot.specs.Numbers.{locatedStart};
 
-const LONGEST: usize = 4048;
+/// The longest payload, in bytes.
+pub const LONGEST: usize = 4048;
 
 /// Document 01's "place in the payload", with the number of the last plot before it (0 if there is none).
 pub struct Cursor {
@@ -112,6 +113,32 @@ impl Cursor {
             return Step::End;
         }
         Step::Refused(Refusal::BadMark(at))
+    }
+
+    /// Moves on one record with every check of it made, its lines and its number too.
+    pub fn next_checked(self, payload: &[u8]) -> Step
+        ensures { λ r. ⌜ r ≡ recordAt (self .at) (self .last) (drop (self .at) (now (payload .entry))) ⌝ }
+    {
+        match self.next(payload) {
+            Step::Record { lines, count, next } => {
+                let end = lines + count * 3;
+                let found = check_lines(&payload[lines..end]);
+                let check = found.check;
+                if check.figure() != 0 {
+                    return Step::Refused(Refusal::BadTally {
+                        place: self.at,
+                        check,
+                        index: found.index,
+                    });
+                }
+                if next.last <= self.last {
+                    return Step::Refused(Refusal::PlotOrder(self.at));
+                }
+                Step::Record { lines, count, next }
+            }
+            Step::End => Step::End,
+            Step::Refused(r) => Step::Refused(r),
+        }
     }
 }
 

@@ -29,7 +29,7 @@ pick-true true u h = (refl, h)
 pick-true false u h = absurd (true-false h refl)
 
 -- a number within its range
-within-iff : (least most x : ℕ) → (within least most x ≡ true) ↔ ((least ≤ x) × (x ≤ most))
+pub within-iff : (least most x : ℕ) → (within least most x ≡ true) ↔ ((least ≤ x) × (x ≤ most))
 within-iff least most x = (by-test (ltb x least) refl, λ h. rw (le-ltb x least (h .0), le-leb x most (h .1)))
   where
     by-test : (t : Bool) → ltb x least ≡ t → pick t false (leb x most) ≡ true → (least ≤ x) × (x ≤ most)

@@ -4,46 +4,38 @@ use Prim.Native.Nat.{ℕ, zero, suc, zero-le, suc-le-suc, _+_, _*_, _-_, _<_, _�
 use native.Mathlib.Omega.{arith}
 use native.Mathlib.Nat.{not-suc-le-zero, le-refl, add-zero}
 use mathlib.Core.Path.{_≡_, refl, sym, ap, subst, _∙_}
-use mathlib.Core.Bool.{Bool, true, false}
+use mathlib.Core.Bool.{true}
 use mathlib.Core.List.{List, [], _∷_, _++_, append-assoc}
 use lib.ListN.{length, take, drop, getD, replicate, length-append, length-drop, take-append-drop}
 use lib.Seq.{take-append-add, drop-drop}
 use Rattle.plot.specs.declared.Cursor.{Cursor}
 use Rattle.plot.specs.declared.Line.{Line}
+use Rattle.plot.specs.declared.LinesCheck.{LinesCheck}
 use Rattle.plot.specs.declared.Refusal.{Refusal}
 use Rattle.plot.specs.declared.Step.the-variants.{Record}
 use Rattle.lists.specs.Bytes.{Bytes}
-use Rattle.lists.specs.Choice.{pick}
 use Rattle.lists.proofs.Bytes.{getD-byte, drop-bytes}
-use Rattle.plot.specs.Layout.{Plot, mark, headerLength, recordLength, noLine, lineHolds, linesHold, linesOf, recordOf, bytesOf}
+use Rattle.plot.specs.Layout.{Plot, mark, headerLength, recordLength, noLine, holds, linesHold, linesOf, recordOf, bytesOf}
 use Rattle.plot.specs.Grammar.{stepAt, Parsed, Plots, Stopped, onto, readFrom, reading}
 use Rattle.plot_promises.specs.Checks.{Zeros, RecordFault}
 use Rattle.plot.specs.Answers.{lastNumber}
 use Rattle.plot.specs.Numbers.{numberOf, placeOf}
 use Rattle.plot_promises.specs.Canonical.{PlotHolds, Rising}
 use Rattle.plot_promises.specs.Figures.{BadLineHere}
-use Rattle.plot.proofs.Lines.{hold-none, hold-first}
 use Rattle.plot.proofs.Lists.{front-five, low-byte, high-byte}
 use Rattle.plot_promises.proofs.Lines.{lines-hold-iff}
 use Rattle.plot_promises.proofs.Refusals.{LineOf}
 use Rattle.plot_promises.proofs.Place.{agree-iff}
 use Rattle.plot_promises.proofs.Turn.{TurnIs, ends, stops, goes-on, turn-is}
 use Rattle.plot.proofs.Cases.{Whole, whole}
+use Rattle.plot.proofs.Records.{check-prefix}
 use Rattle.plot.proofs.Accepts.{here, lines-here, count-here, length-here}
 use Rattle.plot.proofs.Entries.{reading-reads}
 
 -- lines are decided by their own bytes
 pub lines-prefix : (k : ℕ) (before : Line) (l r : List ℕ) → k * 3 ≤ length l → linesHold before k (l ++ r) ≡ linesHold before k l
-lines-prefix zero before l r h = hold-none before (l ++ r) ∙ sym (hold-none before l)
-lines-prefix (suc k) before [] r h = absurd (let z : suc k * 3 ≤ 0 = h in omega arith)
-lines-prefix (suc k) before (x ∷ []) r h = absurd (let z : suc k * 3 ≤ 1 = h in omega arith)
-lines-prefix (suc k) before (x ∷ y ∷ []) r h = absurd (let z : suc k * 3 ≤ 2 = h in omega arith)
-lines-prefix (suc k) before (x ∷ y ∷ z ∷ l) r h =
-    let g : suc k * 3 ≤ suc (suc (suc (length l))) = h in
-    let m : Line = record { species = x; class = y; count = z } in
-    hold-first before k (x ∷ y ∷ z ∷ l ++ r)
-    ∙ ap (λ (t : Bool). pick (lineHolds before m) t false) (lines-prefix k m l r (omega arith))
-    ∙ sym (hold-first before k (x ∷ y ∷ z ∷ l))
+unfolding linesHold
+lines-prefix k before l r h = ap (λ (found : LinesCheck). holds (found .check)) (check-prefix k before 0 l r h)
 
 module _ (at last : ℕ) (s : List ℕ) (from count : ℕ) (next : Cursor) (e : stepAt at s ≡ Record from count next) where
   w : Whole at s from count next
