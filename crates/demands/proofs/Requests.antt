@@ -15,8 +15,12 @@ use Rattle.plot.proofs.Sheets.{same-after-errors}
 use Rattle.plot_promises.proofs.Lines.{line-check-exactly}
 use Rattle.plot_promises.proofs.FirstBad.{first-line-rises}
 use Rattle.plot_promises.proofs.Figures.{figures}
+use Rattle.stand_promises.proofs.Species.{rows-iff, columns-iff}
+use Rattle.stand_promises.proofs.Trees.{tally-lines}
+use Rattle.stand_promises.proofs.Exactly.{beginning-exactly, adding-payload, total-exactly, per-plot-exactly}
+use Rattle.stand_promises.proofs.InTurn.{in-turn}
 use Rattle.former.proofs.AsBefore.{numbers-and-text-as-before}
-use Rattle.demands.specs.Requests.{Request1, Request2, Request3, Requests}
+use Rattle.demands.specs.Requests.{Request1, Request2, Request3, Request4, Requests}
 
 request-1 : Request1
 request-1 = record {
@@ -55,5 +59,17 @@ request-3 = record {
   empty = empty-run-iff;
 }
 
+request-4 : Request4
+request-4 = record {
+  in-turn = in-turn;
+  rows = rows-iff;
+  columns = columns-iff;
+  tallies = tally-lines;
+  beginning = beginning-exactly;
+  adding = adding-payload;
+  total = total-exactly;
+  per-plot = per-plot-exactly;
+}
+
 pub requests : Requests
-requests = record { first = request-1; second = request-2; third = request-3 }
+requests = record { first = request-1; second = request-2; third = request-3; fourth = request-4 }

@@ -19,8 +19,14 @@ use Rattle.sheet.specs.Theorems.{Results, ReadRefusals, SheetLimitFree}
 use Rattle.sheet.specs.Looks.{SheetByLooks}
 use Rattle.sheet.specs.Promise.{FewErrors}
 use Rattle.plot.specs.declared.Line.{Line}
+use Rattle.plot.specs.Layout.{Plot}
 use Rattle.plot.specs.Sheets.{SameAfterErrors}
 use Rattle.plot_promises.specs.Figures.{LineCheckExactly, FirstLineRises, Figures}
+use Rattle.stand.specs.declared.Tract.{Tract}
+use Rattle.stand_promises.specs.Species.{RowsIff, ColumnsIff}
+use Rattle.stand_promises.specs.Trees.{TallyLines}
+use Rattle.stand_promises.specs.Exactly.{BeginningExactly, AddingPayload, TotalExactly, PerPlotExactly}
+use Rattle.stand_promises.specs.InTurn.{InTurn}
 use Rattle.former.specs.AsBefore.{NumbersAndTextAsBefore}
 
 -- Note 1, mould spots
@@ -83,7 +89,28 @@ pub record Request3 : Type 0 where
   -- what the note leaves open, as decided: start n with length 0 is a run too, and a run of no cells holds the block itself where that is a codeword
   pub empty : EmptyRun
 
+-- Note 4, stand table
+pub record Request4 : Type 0 where
+  -- "Payloads are added one after another, up to 1,000. .. In a table begun empty and only added to, each cell must equal its trees in all added tallies, counted from
+  -- the records, and the total, the sum of the cells, all of them. Trees per plot, the table's total over the number of records added, come as a whole quotient and the
+  -- exact remainder."
+  pub in-turn : InTurn
+  -- "Up to 16 listed species, in the list's order, have a row each and a last row takes the others, the seventeenth; .."
+  pub rows : RowsIff
+  -- ".. twenty columns take classes 1 to 10, 11 to 20 and on to 191 to 200."
+  pub columns : ColumnsIff
+  -- ".. all added tallies, counted from the records ..": the tally lines of a plot are those of its record
+  pub tallies : (p : Plot) → TallyLines p
+  -- "A refused payload leaves the table unchanged. Answers, for a state handed in too: 13 species list, after 2, for a listed number outside 1 to 99, a repeat, or more than
+  -- 16; 14 tract full, next, for a payload beyond 1,000 or a cell or counter handed in above 400,000,000; ..": of each entry, for every state
+  pub beginning : (l : List ℕ) → BeginningExactly l
+  pub adding : (t : List (List ℕ)) (tract : Tract) (s : List ℕ) → AddingPayload t tract s
+  pub total : (t : List (List ℕ)) (tract : Tract) → TotalExactly t tract
+  -- ".. 15 no plots, last, for the quotient only, when no plot was added."
+  pub per-plot : (t : List (List ℕ)) (tract : Tract) → PerPlotExactly t tract
+
 pub record Requests : Type 0 where
   pub first : Request1
   pub second : Request2
   pub third : Request3
+  pub fourth : Request4

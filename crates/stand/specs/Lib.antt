@@ -1,0 +1,4 @@
+pub mod Table
+pub mod Bounds
+pub mod Answers
+pub mod Numbers

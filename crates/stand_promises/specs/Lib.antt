@@ -1,0 +1,4 @@
+pub mod Species
+pub mod Trees
+pub mod Exactly
+pub mod InTurn
