@@ -2,18 +2,20 @@
  * Film sheets for plot tallies: the C interface of the proved library (link target/staticlib/libcapi.a, made by `rt staticlib capi`).
  * "Document 01" is the specification, "Film sheets for plot tallies, and their mending", "document 02" is "Later changes to the base".
  *
- * Units: a cell and a byte of a payload are one uint8_t each; every length counts bytes.
+ * Units: a cell, a byte of a payload and a listed species are one uint8_t each; every length counts bytes. A count of a stand table is a uint32_t.
  *
  * Profile: n cells in a block (3 to 255), r check cells (2 to 64, below n), b the starting power (0 to 254), limit the longest run that may
  * be corrected (L, 0 to r - 1), depth the blocks in a sheet (D, 1 to 16). k = n - r, h = r / 2 rounded down.
  *
  * Result: 0 where accepted, or the documents' number of the refusal (the enum below); for the three listing functions a number of bytes.
- * Every number behind a pointer is written on each call, refused or accepted; where it has no meaning it is 0.
+ * Every number behind a pointer is written on each call, refused or accepted; where it has no meaning it is 0. The exceptions are the two counters
+ * of a stand table, which tishwabe_begin_table and tishwabe_add_to_table change where they accept: a refusal leaves them, like the table, as they were.
  * A refusal leaves every buffer as it was, but for the scratch of tishwabe_read_sheet and of tishwabe_read_sheet_spots.
  *
  * What the caller owes: each pointer is valid for the length that follows it (with length 0 nothing is read or written through it), each
- * pointer to a number is valid, and nothing that is written overlaps anything else passed to the same call. Every value of every number and
- * every content of every buffer is allowed. No function allocates, keeps a pointer, or has state; they may run on many threads at once.
+ * pointer to a number is valid, a pointer to a stand table is valid for its 340 counts, and nothing that is written overlaps anything else passed to
+ * the same call. Every value of every number and every content of every buffer and table is allowed. No function allocates, keeps a pointer, or
+ * has state; they may run on many threads at once.
  */
 #ifndef TISHWABE_H
 #define TISHWABE_H
@@ -25,7 +27,7 @@
 extern "C" {
 #endif
 
-/* The documents' numbers, with their words for them: 1 to 10 are document 01's, 11 and 12 are document 02's. */
+/* The documents' numbers, with their words for them: 1 to 10 are document 01's, 11 to 15 are document 02's. */
 enum tishwabe_refusal {
     TISHWABE_ACCEPTED = 0,
     TISHWABE_BAD_PROFILE = 1,   /* misprint: a profile number is outside its range */
@@ -39,7 +41,10 @@ enum tishwabe_refusal {
     TISHWABE_NO_SUCH_PLOT = 9,  /* no such plot: payload accepted, plot absent */
     TISHWABE_FULL = 10,         /* full: the record needs more bytes than are left after the last record */
     TISHWABE_TOO_MANY_ERRORS = 11, /* spotted: in spot mode, no codeword differs in at most h cells */
-    TISHWABE_BAD_SPAN = 12      /* bad span: start plus length exceeds n, or length exceeds r - 1 */
+    TISHWABE_BAD_SPAN = 12,     /* bad span: start plus length exceeds n, or length exceeds r - 1 */
+    TISHWABE_SPECIES_LIST = 13, /* species list: a listed number outside 1 to 99, a repeat, or more than 16 */
+    TISHWABE_TRACT_FULL = 14,   /* tract full: a payload beyond 1,000, or a cell or counter handed in above 400,000,000 */
+    TISHWABE_NO_PLOTS = 15      /* no plots: of the trees per plot only, when no plot was added */
 };
 
 /* Document 02's figures: what fails first in the first bad line of a tally, beside TISHWABE_BAD_TALLY. */
@@ -56,6 +61,14 @@ enum tishwabe_figure {
 
 /* No text of tishwabe_list_input has more bytes. */
 #define TISHWABE_LONGEST_TEXT 22968
+
+/* Of a stand table: its rows and columns, the most species in a list, the most payloads in a table, and the most that a count or a counter handed in
+ * may be. */
+#define TISHWABE_TABLE_ROWS 17
+#define TISHWABE_TABLE_COLUMNS 20
+#define TISHWABE_MOST_LISTED 16
+#define TISHWABE_MOST_PAYLOADS 1000
+#define TISHWABE_MOST_COUNT 400000000
 
 /* 0 if the five numbers are a profile, and 1 (misprint) if one of them is outside its range. *k is n - r (0 where r is above n), *h is r / 2
  * rounded down, in both cases. */
@@ -146,6 +159,38 @@ size_t tishwabe_ask(const uint8_t *payload, size_t payload_length, uint16_t plot
  * byte, or the refusal's place. Refusals 2, 5 to 8 and 10. */
 size_t tishwabe_add(uint8_t *payload, size_t payload_length, uint16_t plot,
                     const uint8_t *lines, size_t lines_length, size_t *place, size_t *figure, size_t *line);
+
+/* ---- the stand table of a tract: trees by species and diameter class, over payloads that are added one after another
+ *
+ * The caller keeps the species list, the table, and two counters, payloads and records, of what was added; all of them are handed to each call.
+ * Rows: each listed species has one, in the list's order, which need not rise; row 16 takes all others, even if the list is shorter. The list may be
+ * empty. Columns: ten classes each, 1 to 10 in column 0, 11 to 20 in column 1, and so on to 191 to 200 in column 19; so class 10 is in column 0, 11 in
+ * column 1, 200 in column 19.
+ *
+ * In a table that was begun and only added to, each count is that of its trees in all payloads added. A payload that is accepted counts though it holds
+ * no record, and one plot number in two payloads is two records.
+ *
+ * Refusal 13 is for the list. 14 is for a count or a counter above 400,000,000, all 340 counts being looked at: what is handed in decides and not what
+ * comes out, so exactly 400,000,000 is accepted. A refusal leaves table and counters as they were; the place of 13, 14 and 15 is 0. */
+
+/* Begins a table, whatever table and counters held before: no tree, no payload, no record. Refusal 13. */
+size_t tishwabe_begin_table(const uint8_t *species, size_t species_length,
+                            uint32_t table[TISHWABE_TABLE_ROWS][TISHWABE_TABLE_COLUMNS], uint32_t *payloads, uint32_t *records);
+
+/* Adds the trees of every record of a payload of 0 to 4,048 bytes. Refusals 2, 13, 14 and then the payload's 5 to 8, in this order; 14 here also where
+ * 1,000 payloads or more were added before. *place is the refusal's place, and 0 where accepted; *figure and *line are as above for plot records. */
+size_t tishwabe_add_to_table(const uint8_t *species, size_t species_length,
+                             uint32_t table[TISHWABE_TABLE_ROWS][TISHWABE_TABLE_COLUMNS], uint32_t *payloads, uint32_t *records,
+                             const uint8_t *payload, size_t payload_length, size_t *place, size_t *figure, size_t *line);
+
+/* The total, the sum of all counts. Refusals 13 and 14, in this order. The table is only read: pass table[0], the 340 counts row by row. */
+size_t tishwabe_table_total(const uint8_t *species, size_t species_length,
+                            const uint32_t *table, uint32_t payloads, uint32_t records, uint64_t *total);
+
+/* Trees per plot: the total over the number of records, as the whole *quotient and the exact *remainder. Refusals 13, 14 and 15, in this order; 15 goes
+ * by the number of records, not by trees. The table as in tishwabe_table_total. */
+size_t tishwabe_trees_per_plot(const uint8_t *species, size_t species_length,
+                               const uint32_t *table, uint32_t payloads, uint32_t records, uint64_t *quotient, uint64_t *remainder);
 
 /* ---- the text of the plot lister, written from text[0] on as far as text_length goes, with no byte 0 at its end: the number of bytes written.
  * Other bytes of text are left. A text takes at most 60 bytes and 6 more for each byte of the payload. */

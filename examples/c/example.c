@@ -1,6 +1,7 @@
 /* Writes a sheet with two plots, a third being refused for the class in one of its lines; shows what the check says of tallies with one bad value;
  * damages the sheet, reads it back, asks for a plot, and lists the sheet as the plot lister does; then the same sheet with mould is read in spot
- * mode; then a block is looked at before anything is written, and filled within runs that are named. */
+ * mode; then a block is looked at before anything is written, and filled within runs that are named; then a stand table is made of two payloads. */
+#include <inttypes.h>
 #include <stdio.h>
 #include <string.h>
 
@@ -140,6 +141,71 @@ static void look_and_fill(void) {
     fill(block, 8, 6, written); /* a spot outside the run */
 }
 
+/* What the caller keeps of a stand table. */
+struct stand {
+    const uint8_t *species;
+    size_t listed;
+    uint32_t table[TISHWABE_TABLE_ROWS][TISHWABE_TABLE_COLUMNS];
+    uint32_t payloads, records;
+};
+
+/* Begins a table with these species and prints the answer. */
+static void begin_table(struct stand *stand, const uint8_t *species, size_t listed) {
+    size_t number = tishwabe_begin_table(species, listed, stand->table, &stand->payloads, &stand->records);
+    printf("table of %zu listed species: answer %zu\n", listed, number);
+    if (number == TISHWABE_ACCEPTED) {
+        stand->species = species;
+        stand->listed = listed;
+    }
+}
+
+/* Adds a payload to the table and prints the answer. */
+static void add_to_table(struct stand *stand, const uint8_t *payload) {
+    size_t place, figure, line;
+    size_t number = tishwabe_add_to_table(stand->species, stand->listed, stand->table, &stand->payloads, &stand->records, payload, D * K,
+                                          &place, &figure, &line);
+    printf("added to the table: answer %zu, place %zu", number, place);
+    print_fault(figure, line);
+}
+
+/* Prints the rows of the listed species and of the others, as far as class 40. */
+static void print_rows(const struct stand *stand) {
+    size_t row;
+    for (row = 0; row < TISHWABE_TABLE_ROWS; row++) {
+        const uint32_t *counts = stand->table[row];
+        if (row < stand->listed || row == TISHWABE_TABLE_ROWS - 1) {
+            printf("  row %zu: %" PRIu32 " %" PRIu32 " %" PRIu32 " %" PRIu32 "\n", row, counts[0], counts[1], counts[2], counts[3]);
+        }
+    }
+}
+
+/* Prints the total and the trees per plot. */
+static void print_sums(const struct stand *stand) {
+    uint64_t total, quotient, remainder;
+    size_t number = tishwabe_table_total(stand->species, stand->listed, stand->table[0], stand->payloads, stand->records, &total);
+    printf("%" PRIu32 " payloads, %" PRIu32 " records: answer %zu, %" PRIu64 " trees\n", stand->payloads, stand->records, number, total);
+    number = tishwabe_trees_per_plot(stand->species, stand->listed, stand->table[0], stand->payloads, stand->records, &quotient, &remainder);
+    printf("trees per plot: answer %zu, %" PRIu64 ", and %" PRIu64 " over\n", number, quotient, remainder);
+}
+
+/* The trees of two payloads by species and class; plot 7 is in both, which is two records. */
+static void stand_table(const uint8_t *payload) {
+    static const uint8_t species[] = {3}, repeat[] = {3, 1, 3}, lines[] = {1, 11, 6};
+    uint8_t other[D * K] = {0};
+    struct stand stand;
+    begin_table(&stand, species, sizeof species);
+    print_sums(&stand); /* no plots yet */
+    add(other, 7, lines, sizeof lines);
+    add_to_table(&stand, payload);
+    add_to_table(&stand, other);
+    print_rows(&stand);
+    print_sums(&stand);
+    other[6] = 201; /* classes are 1 to 200 */
+    add_to_table(&stand, other);
+    begin_table(&stand, repeat, sizeof repeat);
+    print_sums(&stand); /* both left it as it was */
+}
+
 int main(void) {
     static const uint8_t pines[] = {3, 32, 2};
     static const uint8_t mixed[] = {1, 10, 255, 3, 31, 4, 3, 32, 1};
@@ -176,5 +242,6 @@ int main(void) {
     read_with_mould(sheet);
 
     look_and_fill();
+    stand_table(payload);
     return 0;
 }

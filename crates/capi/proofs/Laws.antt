@@ -7,7 +7,9 @@ use Rattle.lists.specs.Choice.{pick}
 use Rattle.profile.specs.declared.Profile.{Profile}
 use Rattle.block.specs.Numbers.{verdictNumber}
 use Rattle.block.specs.declared.Verdict.{Verdict}
-use Rattle.capi.specs.Numbers.{valueOrPlace}
+use lib.Dec.{eqb}
+use borrow.Author.Tests.{eq-eqb, ne-eqb}
+use Rattle.capi.specs.Numbers.{valueOrPlace, unlessRefused}
 
 pub number-of : {A : Type 0} (f : A → ℕ) (x y : A) (z : ℕ) → z ≡ f x → x ≡ y → z ≡ f y
 number-of f x y z made same = made ∙ ap f same
@@ -33,3 +35,11 @@ pub corrector-of : (A : Profile → Verdict) (L : Profile → List ℕ) (f g : V
 corrector-of A L f g p q w o z a b e ew eo ez ea eb =
     let v = verdict-of A f g p q w z a b e ew ez ea eb in
     (v .0, (v .1 .0, (v .1 .1, eo ∙ ap L e)))
+
+-- what is written only where the answer is accepted
+module _ {A : Type 0} (number : ℕ) (new old : A) where
+  pub written : number ≡ 0 → new ≡ unlessRefused number new old
+  written e = rw (eq-eqb _ _ e)
+
+  pub kept : (number ≡ 0 → ⊥) → old ≡ unlessRefused number new old
+  kept e = rw (ne-eqb _ _ e)

@@ -17,3 +17,7 @@ profileNumber p = pick (inRange p) 0 1
 -- of a plot entry, through one reference: a value where the answer is accepted, and the place of the refusal where it is not
 abbrev pub valueOrPlace : ℕ → ℕ → ℕ → ℕ
 valueOrPlace number value place = pick (eqb number 0) value place
+
+-- what is lent and written only where the answer is accepted: the new value, and as it was after a refusal
+abbrev pub unlessRefused {ℓ} : {A : Type ℓ} → ℕ → A → A → A
+unlessRefused number new old = pick (eqb number 0) new old

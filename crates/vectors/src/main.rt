@@ -2,8 +2,8 @@
 // rust/second, which shares no code with the library: `vectors library --bytes` and `vectors library --answers`;
 // rust/second/src/bin/vectors/main.rs says what a vector is. It begins with a byte for the operation (0 correct, 1 write, 2 check a block;
 // 3 write, 4 read a sheet; 5 check a payload, 6 ask it for a plot, 7 add a plot to it; 8 correct a block and 9 read a sheet in spot mode; 10 look at a
-// block, 11 fill a run of it); a word is two bytes, the low one first. Of 5, 6 and 7 figure and line follow the other numbers, 0 and 0 where no line is
-// at fault.
+// block, 11 fill a run of it; 12 begin a stand table, add payloads to a state of one, and ask for its total and its trees per plot); a word is two bytes,
+// the low one first. Of 5, 6, 7 and each payload of 12 figure and line follow the other numbers, 0 and 0 where no line is at fault.
 ghost use Prim.Native.Nat.{_<_, _≤_};
 use libc::STDIN_FILENO;
 use libc::STDOUT_FILENO;
@@ -12,6 +12,8 @@ use plot::Located;
 use profile::Profile;
 use sheet::Mode;
 use sheet::Reading;
+use stand::Outcome;
+use stand::Tract;
 
 // ---- reading
 
@@ -34,8 +36,8 @@ fn byte(one: &[u8; 1]) -> u8 {
     one[0]
 }
 
-// The operation of the next vector; 255 at the end of the input.
-fn operation() -> u8 {
+// The next byte; 255 at the end of the input.
+fn next_byte() -> u8 {
     let mut one = [255u8; 1];
     io::read_full(STDIN_FILENO, &mut one);
     byte(&one)
@@ -62,6 +64,13 @@ fn long() -> usize {
     let c = word() as u64;
     let d = word() as u64;
     (a ^ (b << 16) ^ (c << 32) ^ (d << 48)) as usize
+}
+
+// A number of four bytes, the low one first.
+fn count() -> u32 {
+    let low = word() as u32;
+    let high = word() as u32;
+    low ^ (high << 16)
 }
 
 fn plot_number() -> u16 {
@@ -266,6 +275,106 @@ fn add() {
     cells(payload);
 }
 
+// ---- stand tables
+
+// A cell that the table does not have is left out.
+fn put(table: &mut [[u32; 20]; 17], row: usize, column: usize, trees: u32) {
+    if row < 17 {
+        if column < 20 {
+            table[row][column] = trees;
+        }
+    }
+}
+
+// Reads the cells that are not zero into the table.
+fn read_cells(table: &mut [[u32; 20]; 17]) {
+    let mut left = word();
+    while 0 < left {
+        let row = wide(next_byte());
+        let column = wide(next_byte());
+        put(table, row, column, count());
+        left -= 1;
+    }
+}
+
+// Adds a payload in so many turns, at least one: the last outcome.
+fn add_again(table: &mut [[u32; 20]; 17], tract: Tract, payload: &[u8], turns: usize) -> Outcome {
+    let mut last = stand::add(table, tract, payload);
+    let mut left = turns;
+    while 1 < left {
+        let outcome = stand::add(table, last.tract, payload);
+        last = outcome;
+        left -= 1;
+    }
+    last
+}
+
+// Reads a payload and how often it is added, adds it, and prints the last answer.
+fn add_payload(table: &mut [[u32; 20]; 17], tract: Tract) -> Tract {
+    let mut space = [0u8; 4096];
+    let payload = buffer(&mut space);
+    let last = add_again(table, tract, payload, word());
+    let answer = last.answer;
+    next(wide(answer.number()));
+    next(answer.place());
+    fault(answer.figure(), answer.index());
+    last.tract
+}
+
+fn add_payloads(table: &mut [[u32; 20]; 17], tract: Tract) -> Tract {
+    let mut t = tract;
+    let mut left = word();
+    while 0 < left {
+        let after = add_payload(table, t);
+        t = after;
+        left -= 1;
+    }
+    t
+}
+
+// Row, column and count of the cells of a row that are not zero.
+fn print_row(i: usize, row: [u32; 20]) {
+    let mut j = 0;
+    while j < 20 {
+        if 0 < row[j] {
+            next(i);
+            next(j);
+            next(row[j] as usize);
+        }
+        j += 1;
+    }
+}
+
+fn print_table(table: [[u32; 20]; 17]) {
+    let mut i = 0;
+    while i < 17 {
+        print_row(i, table[i]);
+        i += 1;
+    }
+}
+
+fn stand_table() {
+    let mut space = [0u8; 4096];
+    let species = buffer(&mut space);
+    let payloads = count();
+    let records = count();
+    let mut table = stand::empty();
+    read_cells(&mut table);
+    let begun = stand::begin(species).answer;
+    first(wide(begun.number()));
+    let tract = add_payloads(&mut table, Tract::new(species, payloads, records));
+    next(tract.payloads as usize);
+    next(tract.records as usize);
+    let total = stand::total(table, tract);
+    next(wide(total.number()));
+    next(total.trees() as usize);
+    let per_plot = stand::trees_per_plot(table, tract);
+    next(wide(per_plot.number()));
+    next(per_plot.quotient() as usize);
+    next(per_plot.remainder() as usize);
+    print_table(table);
+}
+
 // A vector after its first byte.
 fn vector(o: u8) {
     match o {
@@ -280,7 +389,8 @@ fn vector(o: u8) {
         8 => correct_spots(profile()),
         9 => read_sheet(Mode::Spots, profile()),
         10 => look(profile()),
-        _ => fill(profile()),
+        11 => fill(profile()),
+        _ => stand_table(),
     }
     end();
 }
@@ -289,7 +399,7 @@ fn vector(o: u8) {
 fn main() {
     let mut left: usize = 2000;
     while 0 < left {
-        let o = operation();
+        let o = next_byte();
         if o == 255 {
             return;
         }

@@ -1,5 +1,4 @@
-//! The library beside that of a former commit, in one run: in each round both do the same work on the same inputs, and which of the two begins
-//! changes from round to round.
+//! The library beside that of a former commit, in one run: in each round both do the same work on the same inputs.
 
 use std::hint::black_box;
 
@@ -8,8 +7,9 @@ use bench::Shape;
 use tishwabe::ffi::{self, Numbers};
 use tishwabe::{Mode, Profile};
 
+use crate::pairs::{Pairs, Side};
 use crate::sheets::{sheets, Sheet};
-use crate::timing::{median, nanoseconds_over, quantile};
+use crate::timing::each_once;
 
 /// A sample takes each input once, so that it is short and seldom interrupted; there are many rounds instead.
 const ROUNDS: usize = 801;
@@ -154,34 +154,7 @@ impl Bench {
     }
 }
 
-fn each_once<T>(inputs: &[T], call: impl FnMut(&T)) -> f64 {
-    nanoseconds_over(inputs.len(), inputs, call)
-}
-
-/// The nanoseconds of both in each round.
-struct Samples {
-    former: Vec<f64>,
-    linked: Vec<f64>,
-}
-
-fn measured(bench: &mut Bench, work: Work, former: &dyn Library) -> Samples {
-    let mut samples = Samples {
-        former: vec![],
-        linked: vec![],
-    };
-    for round in 0..ROUNDS {
-        if round % 2 == 0 {
-            samples.former.push(bench.sample(work, former));
-        }
-        samples.linked.push(bench.sample(work, &Linked));
-        if round % 2 == 1 {
-            samples.former.push(bench.sample(work, former));
-        }
-    }
-    samples
-}
-
-/// A line for each shape and work. The ratio is the median of the rounds' ratios; half of them lie in the range beside it.
+/// A line for each shape and work.
 pub fn table(former: &dyn Library) -> String {
     let mut text = String::from(
         "| n | r | D | work | former, µs | this library, µs | this over former | half of the rounds |\n|---|---|---|---|---|---|---|---|\n",
@@ -191,18 +164,15 @@ pub fn table(former: &dyn Library) -> String {
         bench.hold(former);
         bench.hold(&Linked);
         for work in WORKS {
-            let Samples { former, linked } = measured(&mut bench, work, former);
-            let ratios: Vec<f64> = linked
-                .iter()
-                .zip(&former)
-                .map(|(linked, former)| linked / former)
-                .collect();
-            let [low, ratio, high] = [0.25, 0.5, 0.75].map(|part| quantile(ratios.clone(), part));
-            let [former, linked] = [former, linked].map(|samples| median(samples) / 1000.0);
+            let mut pairs = Pairs::default();
+            for _ in 0..ROUNDS {
+                pairs.round(|side| match side {
+                    Side::First => bench.sample(work, former),
+                    Side::Second => bench.sample(work, &Linked),
+                });
+            }
             let work = bench.called(work);
-            text += &format!(
-                "| {n} | {r} | {depth} | {work} | {former:.2} | {linked:.2} | {ratio:.2} | {low:.2} to {high:.2} |\n"
-            );
+            text += &format!("| {n} | {r} | {depth} | {work} | {}\n", pairs.columns());
         }
     }
     text

@@ -1,18 +1,22 @@
-//! Times the proved library beside a logarithm-table coder and libfec in one run, and how its times grow with n, r and D. Writes the
-//! measured part of docs/PERFORMANCE.md and the plot docs/performance.svg; with the argument `show` it only prints. With the arguments `former`
-//! and a file, it prints the library's times beside those of a former commit's library, which the file has as a shared object.
+//! Times the proved library beside a logarithm-table coder and libfec in one run, how its times grow with n, r and D, and adding a payload to a stand
+//! table beside checking it. Writes the measured part of docs/PERFORMANCE.md and the plot docs/performance.svg; with the argument `show` it only
+//! prints, with `stand` only the times of the stand table. With the arguments `former` and a file, it prints the library's times beside those of a
+//! former commit's library, which the file has as a shared object.
 
 mod date;
 mod former;
+mod pairs;
 mod plot;
 mod report;
 mod shared_object;
 mod sheets;
 mod spots;
+mod stand;
 mod timing;
 
 use bench::Shape;
 use shared_object::SharedObject;
+use stand::PAYLOADS;
 use std::path::Path;
 use std::process::ExitCode;
 
@@ -41,10 +45,11 @@ fn spot_growth() -> String {
 /// The tables of docs/PERFORMANCE.md.
 fn tables() -> String {
     format!(
-        "{}\nOne block again and again, instead of {BLOCKS} in turn:\n\n{}\nSpot mode at n = 255, r = 32 by the number of wrong cells, {BLOCKS} blocks in turn:\n\n{}",
+        "{}\nOne block again and again, instead of {BLOCKS} in turn:\n\n{}\nSpot mode at n = 255, r = 32 by the number of wrong cells, {BLOCKS} blocks in turn:\n\n{}\nAdding a payload of 4,048 bytes to a stand table, and checking it, {PAYLOADS} new payloads in each round:\n\n{}",
         compared(&SHAPES, BLOCKS),
         compared(&[(255, 32)], 1),
-        spot_growth()
+        spot_growth(),
+        stand::table(ROUNDS)
     )
 }
 
@@ -67,6 +72,7 @@ fn main() -> ExitCode {
             write(&tables);
         }
         ["show"] => println!("{}", tables()),
+        ["stand"] => println!("{}", stand::table(ROUNDS)),
         ["former", path] => match SharedObject::open(Path::new(path)) {
             Ok(former) => println!("{}", former::table(&former)),
             Err(error) => {
@@ -75,7 +81,7 @@ fn main() -> ExitCode {
             }
         },
         _ => {
-            eprintln!("the arguments are none, `show`, or `former` and a file");
+            eprintln!("the arguments are none, `show`, `stand`, or `former` and a file");
             return ExitCode::FAILURE;
         }
     }

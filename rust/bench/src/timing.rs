@@ -121,8 +121,12 @@ pub fn nanoseconds<T>(inputs: &[T], call: impl FnMut(&T)) -> f64 {
     nanoseconds_over(CALLS, inputs, call)
 }
 
-/// The same over so many calls.
-pub fn nanoseconds_over<T>(calls: usize, inputs: &[T], mut call: impl FnMut(&T)) -> f64 {
+/// The same over one call for each input.
+pub fn each_once<T>(inputs: &[T], call: impl FnMut(&T)) -> f64 {
+    nanoseconds_over(inputs.len(), inputs, call)
+}
+
+fn nanoseconds_over<T>(calls: usize, inputs: &[T], mut call: impl FnMut(&T)) -> f64 {
     let begin = Instant::now();
     for input in inputs.iter().cycle().take(calls) {
         call(input);

@@ -1,7 +1,8 @@
-//! Random profiles, damage, lines and payloads.
+//! Random profiles, damage, lines, payloads and stand tables.
 
 use second::generator::generator;
 use second::random::Random;
+use second::stand::State;
 use second::{plot, Profile, Run};
 
 /// The largest n and r of a profile to draw: brute force takes long on large ones.
@@ -268,4 +269,55 @@ pub fn payload(random: &mut Random) -> Vec<u8> {
         _ => {}
     }
     payload
+}
+
+/// A species list of so many different numbers in range. It is accepted if these are at most 16.
+pub fn species(random: &mut Random, count: usize) -> Vec<u8> {
+    let numbers = random.distinct(99, count).into_iter();
+    numbers.map(|number| number as u8 + 1).collect()
+}
+
+/// A species list that is refused: with a number out of range or a repeat, or too long.
+pub fn bad_species(random: &mut Random) -> Vec<u8> {
+    let count = random.between(1, 15);
+    let mut list = species(random, count);
+    let place = random.between(0, count);
+    match random.between(0, 4) {
+        0 => list.insert(place, 0),
+        1 => list.insert(place, random.between(100, 255) as u8),
+        2 => list.insert(place, list[random.between(0, count - 1)]),
+        3 => list = species(random, 17),
+        _ => {
+            let length = random.between(17, 600);
+            list = random.bytes(length);
+        }
+    }
+    list
+}
+
+/// The most that a cell or a counter of a state may be.
+pub const MOST: u32 = 400_000_000;
+
+/// A state that is accepted: cells of any size or mostly zero, and fewer than 1,000 payloads.
+pub fn state(random: &mut Random) -> State {
+    let mut state = State {
+        payloads: random.between(0, 999) as u32,
+        records: [0, random.between(0, 9), random.between(0, 400_000_000)][random.between(0, 2)] as u32,
+        ..State::EMPTY
+    };
+    let most = [0, 40, 400_000_000][random.between(0, 2)];
+    for cell in state.cells.as_flattened_mut() {
+        *cell = [0, random.between(0, most), most][random.between(0, 2)] as u32;
+    }
+    state
+}
+
+/// Puts a number above the limit into a cell or a counter.
+pub fn overfill(random: &mut Random, state: &mut State) {
+    let above = [MOST + 1, u32::MAX, random.between(400_000_001, 4_294_967_295) as u32][random.between(0, 2)];
+    match random.between(0, 3) {
+        0 => state.payloads = above,
+        1 => state.records = above,
+        _ => state.cells.as_flattened_mut()[random.between(0, 339)] = above,
+    }
 }

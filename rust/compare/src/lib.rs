@@ -6,6 +6,7 @@ pub mod draw;
 pub mod listing;
 pub mod plot;
 pub mod sheet;
+pub mod stand;
 pub mod work;
 
 /// Number, place and two values of an answer. What an answer does not have is 0.

@@ -39,7 +39,7 @@ impl Answer {
     }
 
     /// What the C interface hands out: place or first byte in one number, and the length in a number of its own.
-    fn handed_out(self) -> PayloadAnswer {
+    pub fn handed_out(self) -> PayloadAnswer {
         PayloadAnswer {
             number: self.number,
             place: self.place + self.at,

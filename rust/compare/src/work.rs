@@ -48,6 +48,9 @@ pub fn called(number: usize) -> &'static str {
         "full",
         "spotted",
         "bad span",
+        "species list",
+        "tract full",
+        "no plots",
     ][number]
 }
 

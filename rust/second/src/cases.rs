@@ -1,14 +1,16 @@
-//! Examples with answers found by hand: document 01's bench sheet, a table for spot mode, one of runs to fill, and tables of refusals with their
-//! places; for a bad tally, `refuse_line` has the place, the figure and the line.
+//! Examples with answers found by hand: document 01's bench sheet, a table for spot mode, one of runs to fill, one of stand tables, and tables of
+//! refusals with their places; for a bad tally, `refuse_line` has the place, the figure and the line.
 //! The unit tests hold the library to them, and the test vectors include their inputs.
 
 mod bad_lines;
 mod fills;
+mod stand;
 
 use crate::block::Profile;
 use crate::plot::record;
 use crate::refusal::{refuse, refuse_line, Refusal};
 pub use fills::{fills, Filling};
+pub use stand::{tracts, Tract};
 
 /// The codeword and two numbers of a corrected block, or the refusal's number. The numbers are start and length of the run, in spot mode the number
 /// of cells changed and the lowest of them.

@@ -17,6 +17,7 @@ pub mod random;
 pub mod refusal;
 pub mod sheet;
 pub mod spots;
+pub mod stand;
 
 pub use block::{Profile, Run};
 pub use mode::Mode;

@@ -1,5 +1,5 @@
 //! Refusals: document 01's numbers 1 to 10 and document 02's from 11 on, each with one place, and for a bad tally the value and the line.
-//! One struct serves blocks, sheets, payloads and the lister.
+//! One struct serves blocks, sheets, payloads, the lister and the stand table.
 
 /// Document 01: "misprint".
 pub const PROFILE_RANGE: u8 = 1;
@@ -25,6 +25,12 @@ pub const NO_SPACE: u8 = 10;
 pub const NO_CODEWORD_NEAR: u8 = 11;
 /// Document 02, Note 3: "bad span".
 pub const RUN_OUT_OF_RANGE: u8 = 12;
+/// Document 02, Note 4: "species list".
+pub const SPECIES_LIST: u8 = 13;
+/// Document 02, Note 4: "tract full".
+pub const TRACT_FULL: u8 = 14;
+/// Document 02, Note 4: "no plots".
+pub const NO_PLOTS: u8 = 15;
 
 /// Document 02, Note 2: what fails in a tally line is its species.
 pub const SPECIES: u8 = 1;

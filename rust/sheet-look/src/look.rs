@@ -1,8 +1,7 @@
 //! The looks at the blocks of a sheet, and what the fills would change.
 
+use sheet_file::Sheet;
 use tishwabe::{Error, Profile, Run};
-
-use crate::sheet::Sheet;
 
 /// What a look says of a block, and the cells that a fill of its run would change.
 #[derive(Debug, PartialEq)]

@@ -4,7 +4,6 @@
 mod arguments;
 mod drawing;
 mod look;
-mod sheet;
 mod table;
 
 use std::ffi::OsString;
@@ -13,7 +12,7 @@ use std::path::Path;
 use std::process::ExitCode;
 
 use arguments::Request;
-use sheet::Sheet;
+use sheet_file::Sheet;
 
 /// Why the program ends with a status that is not 0.
 enum Failure {

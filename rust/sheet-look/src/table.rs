@@ -1,9 +1,9 @@
 //! The table: a line for each block, and one for the sheet.
 
+use sheet_file::counted;
 use tishwabe::Profile;
 
 use crate::look::Look;
-use crate::sheet::counted;
 
 pub fn text(profile: &Profile, looks: &[Look]) -> String {
     let rows = looks.iter().enumerate().map(|(block, look)| row(block, look));

@@ -58,7 +58,7 @@ impl fmt::Display for LineFault {
     }
 }
 
-/// Why an entry refused. `Display` gives the documents' word for it, its number and its place; for 11 and 12 it says what is meant, and for a fault
+/// Why an entry refused. `Display` gives the documents' word for it, its number and its place; from 11 on it says what is meant, and for a fault
 /// in a tally line which line, that the first line is 0, and which value.
 ///
 /// ```
@@ -69,6 +69,11 @@ impl fmt::Display for LineFault {
 /// assert_eq!(spotted, "spotted: no codeword differs in at most h cells (refusal 11, place 2)");
 /// let span = Error::BadSpan.to_string();
 /// assert_eq!(span, "bad span: start plus length exceeds n, or length exceeds r − 1 (refusal 12, place 0)");
+/// let list = Error::SpeciesList.to_string();
+/// assert_eq!(list, "species list: a number outside 1 to 99, a repeat, or more than 16 (refusal 13, place 0)");
+/// let tract = Error::TractFull.to_string();
+/// assert_eq!(tract, "tract full: a payload beyond 1,000, or a cell or counter above 400,000,000 (refusal 14, place 0)");
+/// assert_eq!(Error::NoPlots.to_string(), "no plots: no record was added (refusal 15, place 0)");
 ///
 /// let outside_a_line = Error::BadTally { place: 12, line: None };
 /// assert_eq!(outside_a_line.to_string(), "bad tally (refusal 7, place 12)");
@@ -134,10 +139,16 @@ pub enum Error {
     },
     /// 12, "bad span": of the run to be filled, start plus length exceeds n, or length exceeds r − 1.
     BadSpan,
+    /// 13, "species list": a listed species number is not 1 to 99, one is repeated, or there are more than 16.
+    SpeciesList,
+    /// 14, "tract full": the table has 1,000 payloads, or a cell or a counter of the state handed in is above 400,000,000.
+    TractFull,
+    /// 15, "no plots", of the trees per plot only: no record was added.
+    NoPlots,
 }
 
 impl Error {
-    /// Its number, 1 to 10 in document 01, 11 and 12 in document 02.
+    /// Its number, 1 to 10 in document 01, 11 to 15 in document 02.
     pub fn number(self) -> u8 {
         match self {
             Error::BadProfile => 1,
@@ -152,6 +163,9 @@ impl Error {
             Error::Full { .. } => 10,
             Error::TooManyErrors { .. } => 11,
             Error::BadSpan => 12,
+            Error::SpeciesList => 13,
+            Error::TractFull => 14,
+            Error::NoPlots => 15,
         }
     }
 
@@ -159,6 +173,7 @@ impl Error {
     pub fn place(self) -> usize {
         match self {
             Error::BadProfile | Error::WrongLength | Error::NoSuchPlot | Error::BadSpan => 0,
+            Error::SpeciesList | Error::TractFull | Error::NoPlots => 0,
             Error::Uncorrectable { block } | Error::Ambiguous { block } | Error::TooManyErrors { block } => block,
             Error::BadMark { place }
             | Error::CutShort { place }
@@ -209,6 +224,9 @@ impl Error {
             Error::Full { .. } => "full",
             Error::TooManyErrors { .. } => "spotted",
             Error::BadSpan => "bad span",
+            Error::SpeciesList => "species list",
+            Error::TractFull => "tract full",
+            Error::NoPlots => "no plots",
         }
     }
 }
@@ -219,6 +237,9 @@ impl fmt::Display for Error {
         match self {
             Error::TooManyErrors { .. } => f.write_str(": no codeword differs in at most h cells")?,
             Error::BadSpan => f.write_str(": start plus length exceeds n, or length exceeds r − 1")?,
+            Error::SpeciesList => f.write_str(": a number outside 1 to 99, a repeat, or more than 16")?,
+            Error::TractFull => f.write_str(": a payload beyond 1,000, or a cell or counter above 400,000,000")?,
+            Error::NoPlots => f.write_str(": no record was added")?,
             Error::BadTally {
                 place,
                 line: Some(fault),
@@ -232,7 +253,7 @@ impl fmt::Display for Error {
 
 impl std::error::Error for Error {}
 
-/// The value, unless the number is a refusal's. No entry on a block or a sheet names a line.
+/// The value, unless the number is a refusal's. Only an entry that takes a payload names a line.
 pub(crate) fn accepted<T>(number: usize, place: usize, value: T) -> Result<T, Error> {
     let answer = PayloadAnswer {
         number,
@@ -242,7 +263,7 @@ pub(crate) fn accepted<T>(number: usize, place: usize, value: T) -> Result<T, Er
     payload_accepted(answer, value)
 }
 
-/// The value, unless the number is a refusal's. The library answers no number above 12.
+/// The value, unless the number is a refusal's. The library answers no number above 15.
 pub(crate) fn payload_accepted<T>(answer: PayloadAnswer, value: T) -> Result<T, Error> {
     let PayloadAnswer { place, line: index, .. } = answer;
     Err(match answer.number {
@@ -261,6 +282,9 @@ pub(crate) fn payload_accepted<T>(answer: PayloadAnswer, value: T) -> Result<T, 
         9 => Error::NoSuchPlot,
         10 => Error::Full { place },
         11 => Error::TooManyErrors { block: place },
-        _ => Error::BadSpan,
+        12 => Error::BadSpan,
+        13 => Error::SpeciesList,
+        14 => Error::TractFull,
+        _ => Error::NoPlots,
     })
 }

@@ -2,6 +2,8 @@
 //! Nothing else in this crate is `unsafe`. A slice goes as its pointer and its length, a number comes back through a reference; the
 //! functions of the library accept every argument of these types, and keep no pointer after they return.
 
+pub mod table;
+
 use crate::profile::Mode;
 
 /// n, r, b, L and D of document 01, in any range.

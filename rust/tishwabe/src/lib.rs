@@ -1,4 +1,4 @@
-//! Film sheets for plot tallies: blocks and sheets written, checked and corrected, and the plot records inside.
+//! Film sheets for plot tallies: blocks and sheets written, checked and corrected, the plot records inside, and one stand table over many of them.
 //!
 //! Every function is total: it answers each input of its types, and never panics. The work is done by a library whose functions
 //! are proved to meet document 01, "Film sheets for plot tallies, and their mending", and document 02, "Later changes to the base"; this crate
@@ -27,6 +27,8 @@
 //! A block may be looked at before anything is written, [`Profile::look_block`], and filled within a run that is named, [`Profile::fill_block`].
 //!
 //! Damp film gets spots and no scratches: [`Profile::read_sheet_in`] with [`Mode::Spots`] corrects any h cells of each block, wherever they lie.
+//!
+//! The payloads of a whole tract go into one [`StandTable`], trees by species and diameter class.
 #![deny(unsafe_code)]
 #![deny(missing_docs)]
 
@@ -36,7 +38,9 @@ mod error;
 pub mod ffi;
 mod plot;
 mod profile;
+mod stand;
 
 pub use error::{Error, Figure, LineFault};
 pub use plot::{add, ask, check_payload, list, list_input, list_refusal, locate};
 pub use profile::{Changes, Mode, Profile, Run};
+pub use stand::{Counts, RowLabel, StandTable, TreesPerPlot};

@@ -6,7 +6,7 @@
 //!     vectors lists --input I  input number I (from 0) of the kind `lists`, as it stands
 //!     vectors lister           reads the lister's standard input and prints the lister's text
 //!
-//! In a line of text a buffer is `| length bytes |`. In the stream a word is two bytes, low first, a long is eight, and a
+//! In a line of text a buffer is `| length bytes |`. In the stream a word is two bytes, low first, a count is four, a long is eight, and a
 //! buffer is a word for its length and then its bytes. The stream has no header and ends with its last vector.
 //! A profile is five words: n, r, b, L, D. Number 0 means accepted; else it is the refusal's number. Figure and line are document 02's for a
 //! fault in a tally line, and 0 and 0 in every other answer.
@@ -36,10 +36,16 @@
 //!             byte 1, profile, buffer read block, long        number; the second buffer's bytes at exit
 //!             start, long length, word length of the second
 //!             buffer (each byte 170 at entry): the fill
+//! stands      byte 0, buffer species list, count payloads,    number of the beginning; number, place, figure and line
+//!             count records, word how many cells are not      of each payload's last addition; payloads; records;
+//!             zero, for each of them byte row, byte column,   number of the total, and the total; number of the trees
+//!             count; word how many payloads follow, for each  per plot, quotient, remainder; for each cell that is not
+//!             of them buffer payload, word how often it is    zero its row, its column and its count
+//!             added in turn
 //! library     as block; then as sheets, with bytes 3 and 4;   as there
 //!             then as plots, with bytes 5, 6 and 7; then as
 //!             spots, with bytes 8 and 9; then as fills, with
-//!             bytes 10 and 11
+//!             bytes 10 and 11; then as stands, with byte 12
 //! lists       buffer standard input                           length of the text; its bytes
 //! generators  word b, word r                                  the r+1 coefficients, lowest first
 
@@ -48,6 +54,7 @@ mod fills;
 mod plots;
 mod sheets;
 mod spots;
+mod stands;
 mod vector;
 
 use std::io::{self, Read, Write};
@@ -62,6 +69,7 @@ fn vectors(kind: &str) -> Option<Vec<Vector>> {
         "sheets" => Some(sheets::sheets()),
         "spots" => Some(spots::spots()),
         "fills" => Some(fills::fills()),
+        "stands" => Some(stands::stands()),
         "library" => Some(library()),
         "plots" => Some(plots::plots()),
         "lists" => Some(sheets::lists()),
@@ -77,6 +85,7 @@ fn library() -> Vec<Vector> {
     vectors.extend(counted_from(5, plots::plots()));
     vectors.extend(counted_from(8, spots::spots()));
     vectors.extend(counted_from(10, fills::fills()));
+    vectors.extend(counted_from(12, stands::stands()));
     vectors
 }
 
@@ -117,7 +126,7 @@ fn main() -> io::Result<()> {
         Some(bytes) => io::stdout().write_all(&bytes),
         None => {
             eprintln!(
-                "vectors blocks|writes|checks|block|sheets|spots|fills|library|plots|lists|generators [--bytes|--answers]"
+                "vectors blocks|writes|checks|block|sheets|spots|fills|stands|library|plots|lists|generators [--bytes|--answers]"
             );
             std::process::exit(2)
         }
@@ -133,7 +142,7 @@ mod tests {
     /// Each kind has an accepted vector and one for each refusal that its entries can give.
     #[test]
     fn every_number_occurs() {
-        let expected: [(&str, &[usize]); 9] = [
+        let expected: [(&str, &[usize]); 10] = [
             ("blocks", &[0, 1, 2, 3, 4]),
             ("writes", &[0, 1, 2]),
             ("checks", &[0, 1, 2]),
@@ -142,7 +151,8 @@ mod tests {
             ("plots", &[0, 2, 5, 6, 7, 8, 9, 10]),
             ("spots", &[0, 1, 2, 11]),
             ("fills", &[0, 1, 2, 3, 4, 12]),
-            ("library", &[0, 1, 2, 3, 4, 5, 6, 7, 8, 9, 10, 11, 12]),
+            ("stands", &[0, 13]),
+            ("library", &[0, 1, 2, 3, 4, 5, 6, 7, 8, 9, 10, 11, 12, 13]),
         ];
         for (kind, numbers) in expected {
             let found: BTreeSet<usize> = vectors(kind).unwrap().iter().map(|vector| vector.answer[0]).collect();
@@ -161,6 +171,21 @@ mod tests {
             let found: BTreeSet<usize> = vectors("fills").unwrap().iter().filter_map(told).collect();
             assert_eq!(found, BTreeSet::from(numbers), "{operation}");
         }
+    }
+
+    /// Additions have every number that they can give, and so have totals and trees per plot.
+    #[test]
+    fn every_number_of_stand_tables_occurs() {
+        let mut found = [(); 3].map(|()| BTreeSet::new());
+        for vector in vectors("stands").unwrap() {
+            let buffers = vector.fields.iter().filter(|field| matches!(field, Field::Bytes(_)));
+            let (additions, after) = vector.answer[1..].split_at(4 * (buffers.count() - 1));
+            found[0].extend(additions.iter().copied().step_by(4));
+            found[1].insert(after[2]);
+            found[2].insert(after[4]);
+        }
+        let due = [&[0, 2, 5, 6, 7, 8, 13, 14][..], &[0, 13, 14], &[0, 13, 14, 15]];
+        assert_eq!(found, due.map(|numbers| numbers.iter().copied().collect()));
     }
 
     /// Each operation on plots has a bad tally for each figure, in the first line, in a middle one and in the last of forty, and one outside a line; the

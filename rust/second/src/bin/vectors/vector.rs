@@ -7,6 +7,8 @@ pub enum Field {
     Byte(u8),
     /// Two bytes, low first.
     Word(usize),
+    /// Four bytes, low first.
+    Count(u32),
     /// Eight bytes, low first.
     Long(usize),
     /// A length as a word, then the bytes.
@@ -54,6 +56,7 @@ impl Vector {
         let bytes = |field: &Field| match field {
             Field::Byte(x) => vec![*x],
             Field::Word(x) => word(*x).into(),
+            Field::Count(x) => x.to_le_bytes().into(),
             Field::Long(x) => (*x as u64).to_le_bytes().into(),
             Field::Bytes(x) => [&word(x.len())[..], x].concat(),
         };
@@ -69,6 +72,7 @@ impl Vector {
     pub fn text_line(&self) -> String {
         let text = |field: &Field| match field {
             Field::Byte(x) => format!("{x} "),
+            Field::Count(x) => format!("{x} "),
             Field::Word(x) | Field::Long(x) => format!("{x} "),
             Field::Bytes(x) if x.is_empty() => "| 0 | ".into(),
             Field::Bytes(x) => format!("| {} {} | ", x.len(), spaced(x.iter().map(|&y| usize::from(y)))),

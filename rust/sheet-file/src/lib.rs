@@ -1,5 +1,7 @@
-//! A sheet with its profile, from a file that has the plot lister's input: the bytes n, r, b, L and D, then the cells.
+//! A sheet with its profile, from a file that has the plot lister's input: the bytes n, r, b, L and D, then the cells. The programs that read
+//! sheets share it.
 
+use std::fmt::Display;
 use std::fs::File;
 use std::io::{self, Read};
 use std::path::Path;
@@ -12,7 +14,7 @@ const LONGEST: usize = 5 + 16 * 255;
 #[derive(Debug, PartialEq)]
 pub struct Sheet {
     pub profile: Profile,
-    cells: Vec<u8>,
+    pub cells: Vec<u8>,
 }
 
 impl Sheet {
@@ -60,8 +62,8 @@ impl Sheet {
 }
 
 /// So many of what the word names.
-pub fn counted(number: usize, word: &str) -> String {
-    let plural = if number == 1 { "" } else { "s" };
+pub fn counted<N: Display + PartialEq + From<u8>>(number: N, word: &str) -> String {
+    let plural = if number == N::from(1) { "" } else { "s" };
     format!("{number} {word}{plural}")
 }
 

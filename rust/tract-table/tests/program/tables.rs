@@ -1,0 +1,165 @@
+//! What the program prints.
+
+use second::plot::record;
+use second::random::Random;
+use second::Mode;
+
+use crate::expected;
+use crate::run::{example, folder, run, EXAMPLES};
+use crate::sheets::{drawn, files, written, File, LONGEST, SMALL};
+
+/// What the program prints for these files, which is what the second decoder makes of them.
+fn held(name: &str, files: &[File], mode: Mode, species: Option<&[u8]>) -> String {
+    let folder = folder(name, files);
+    let list = species.map(|list| list.iter().map(u8::to_string).collect::<Vec<String>>().join(","));
+    let mut arguments: Vec<&str> = files.iter().map(|(name, _)| name.as_str()).collect();
+    if mode == Mode::Spots {
+        arguments.insert(0, "--spots");
+    }
+    if let Some(list) = &list {
+        arguments.extend(["--species", list]);
+    }
+    let ended = run(&folder, &arguments);
+    assert_eq!(ended, expected::run(files, mode, species));
+    ended.out
+}
+
+/// The same for one sheet, of these plots, in scratch mode.
+fn one_sheet(name: &str, numbers: [usize; 5], payload: &[u8], species: Option<&[u8]>) -> String {
+    held(name, &files([written(numbers, payload)]), Mode::Burst, species)
+}
+
+#[test]
+fn examples() {
+    let sheets = files(EXAMPLES.map(example));
+    for mode in Mode::ALL {
+        held("examples", &sheets, mode, None);
+        for list in [&[5, 2, 1][..], &[14], &[99, 1], &[1, 2, 5, 9, 14]] {
+            held("examples", &sheets, mode, Some(list));
+        }
+    }
+}
+
+/// One block with one plot and one tree.
+#[test]
+fn singular() {
+    let due = "\
+0.sheet: 1 plot, 1 tree, 0 of 1 block mended
+
+Trees by species and diameter class in centimetres:
+
+species  31-40  total
+      3      1      1
+ others      0      0
+  total      1      1
+
+1 tree on 1 plot: 1 tree per plot and 0 over.
+";
+    let plot = record(7, &[3, 32, 1]);
+    assert_eq!(one_sheet("singular", [20, 8, 1, 4, 1], &plot, Some(&[3])), due);
+}
+
+/// A sheet with no plot is no failure.
+#[test]
+fn no_plots() {
+    let due = "\
+0.sheet: 0 plots, 0 trees, 0 of 4 blocks mended
+
+Trees by species and diameter class in centimetres:
+
+species  total
+ others      0
+  total      0
+
+0 trees on 0 plots, and so no trees per plot: no plots (refusal 15).
+";
+    assert_eq!(one_sheet("no_plots", SMALL, &[], None), due);
+}
+
+/// Every class, in two parts: the sums of the rows stand at the end of the second.
+#[test]
+fn all_classes() {
+    let lines: Vec<u8> = (0..20)
+        .flat_map(|column| [3, 10 * column + 1 + column / 2, 2 * column + 1])
+        .collect();
+    let due = "
+species  1-10  11-20  21-30  31-40  41-50  51-60  61-70  71-80  81-90  91-100
+      3     1      3      5      7      9     11     13     15     17      19
+ others     0      0      0      0      0      0      0      0      0       0
+  total     1      3      5      7      9     11     13     15     17      19
+
+species  101-110  111-120  121-130  131-140  141-150  151-160  161-170  171-180  181-190  191-200  total
+      3       21       23       25       27       29       31       33       35       37       39    400
+ others        0        0        0        0        0        0        0        0        0        0      0
+  total       21       23       25       27       29       31       33       35       37       39    400
+";
+    let text = one_sheet("all_classes", SMALL, &record(7, &lines), None);
+    assert!(text.contains(due), "{text}");
+}
+
+/// Seventeen species: the one with the fewest trees has no row of its own. Of sixteen each has one.
+#[test]
+fn more_species_than_rows() {
+    let count = |number| if number == 9 { 1 } else { 2 };
+    let lines: Vec<u8> = (1..=17).flat_map(|number| [2 * number, 30, count(number)]).collect();
+    let text = one_sheet("seventeen", SMALL, &record(7, &lines), None);
+    let rows = "in centimetres, the 16 of 17 species with the most trees in rows of their own:\n";
+    assert!(text.contains(rows) && text.contains("\n others      1 "), "{text}");
+    assert!(!text.contains("\n     18 "), "{text}");
+    let text = one_sheet("sixteen", SMALL, &record(7, &lines[..16 * 3]), None);
+    assert!(
+        text.contains("\n     18      1 ") && text.contains("\n others      0 "),
+        "{text}"
+    );
+}
+
+/// A thousand sheets and two more, and one among each that is refused for its own reason.
+#[test]
+fn more_than_a_thousand() {
+    let [good, bad] = [2, 0].map(|count| written([20, 8, 1, 4, 1], &record(7, &[3, 32, count])));
+    let sheet = |number| if number == 7 || number == 1_002 { &bad } else { &good };
+    let sheets = files((0..1_004).map(|number| sheet(number).clone()));
+    let text = held("thousand", &sheets, Mode::Burst, None);
+    let told = |number: usize| {
+        let full = "tract full: a payload beyond 1,000, or a cell or counter above 400,000,000 (refusal 14, place 0)";
+        format!("\n{number}.sheet: not in the table: {full}\n")
+    };
+    assert!((1_001..1_004).all(|number| text.contains(&told(number))));
+    assert!(!(0..1_001).any(|number| text.contains(&told(number))));
+    let due = "\n2000 trees on 1000 plots: 2 trees per plot and 0 over. 4 of 1004 sheets are not in the table.\n";
+    assert!(text.ends_with(due));
+}
+
+/// The longest sheets, of as many whole records as fit.
+#[test]
+fn longest_sheets() {
+    let lines: Vec<u8> = (1..=40).flat_map(|class| [99, 5 * class, 255]).collect();
+    let payload: Vec<u8> = (1..=32).flat_map(|plot| record(plot, &lines)).collect();
+    let sheets = files([written(LONGEST, &payload), written(LONGEST, &payload)]);
+    let text = held("longest", &sheets, Mode::Burst, None);
+    let due = "\n652800 trees on 64 plots: 10200 trees per plot and 0 over.\n";
+    assert!(text.ends_with(due), "{text}");
+}
+
+/// Tracts of a few sheets, some of them damaged, in both modes, with a list and without.
+#[test]
+fn as_the_second_decoder() {
+    let mut random = Random::new(11);
+    let mut words = ["torn", "spotted", "bad", "rows of their own", "8 plots"].map(|word| (word, 0));
+    for round in 0..150 {
+        let sheets = files((0..random.between(1, 9)).map(|_| drawn(&mut random)));
+        let list: Vec<u8> = random
+            .distinct(24, 6)
+            .into_iter()
+            .map(|number| 4 * number as u8 + 4)
+            .collect();
+        let species = [None, Some(&list[..random.between(1, 6)])][round % 2];
+        let text = held("as_the_second_decoder", &sheets, Mode::ALL[round / 2 % 2], species);
+        for (word, times) in &mut words {
+            *times += text.matches(*word).count();
+        }
+    }
+    for (word, times) in words {
+        assert!(times > 3, "{word}: {times}");
+    }
+}
