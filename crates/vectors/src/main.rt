@@ -12,12 +12,13 @@ use plot::Located;
 use profile::Profile;
 use sheet::Mode;
 use sheet::Reading;
-use stand::Outcome;
-use stand::Tract;
+use tables::stand_table;
+
+mod tables;
 
 // ---- reading
 
-fn wide(x: u8) -> usize
+pub(crate) fn wide(x: u8) -> usize
     ensures { λ r. ⌜ r < 256 ⌝ }
 {
     x as usize
@@ -37,7 +38,7 @@ fn byte(one: &[u8; 1]) -> u8 {
 }
 
 // The next byte; 255 at the end of the input.
-fn next_byte() -> u8 {
+pub(crate) fn next_byte() -> u8 {
     let mut one = [255u8; 1];
     io::read_full(STDIN_FILENO, &mut one);
     byte(&one)
@@ -49,7 +50,7 @@ fn value(pair: &[u8; 2]) -> usize
     wide(pair[0]) + 256 * wide(pair[1])
 }
 
-fn word() -> usize
+pub(crate) fn word() -> usize
     ensures { λ r. ⌜ r < 65536 ⌝ }
 {
     let mut pair = [0u8; 2];
@@ -67,7 +68,7 @@ fn long() -> usize {
 }
 
 // A number of four bytes, the low one first.
-fn count() -> u32 {
+pub(crate) fn count() -> u32 {
     let low = word() as u32;
     let high = word() as u32;
     low ^ (high << 16)
@@ -99,7 +100,7 @@ fn part(space: &mut [u8]) -> &mut [u8] {
 }
 
 // The next buffer, its length and then its bytes, read into the space.
-fn buffer(space: &mut [u8]) -> &mut [u8] {
+pub(crate) fn buffer(space: &mut [u8]) -> &mut [u8] {
     let lent = part(space);
     io::read_full(STDIN_FILENO, lent);
     lent
@@ -107,11 +108,11 @@ fn buffer(space: &mut [u8]) -> &mut [u8] {
 
 // ---- printing
 
-fn first(x: usize) {
+pub(crate) fn first(x: usize) {
     io::print_decimal(STDOUT_FILENO, x as u64);
 }
 
-fn next(x: usize) {
+pub(crate) fn next(x: usize) {
     io::write_all(STDOUT_FILENO, b" ");
     io::print_decimal(STDOUT_FILENO, x as u64);
 }
@@ -225,7 +226,7 @@ fn refused(r: plot::Refusal) {
 }
 
 // Figure and index of the line at fault.
-fn fault(figure: u8, index: usize) {
+pub(crate) fn fault(figure: u8, index: usize) {
     next(wide(figure));
     next(index);
 }
@@ -273,106 +274,6 @@ fn add() {
     }
     fault(answer.figure(), answer.index());
     cells(payload);
-}
-
-// ---- stand tables
-
-// A cell that the table does not have is left out.
-fn put(table: &mut [[u32; 20]; 17], row: usize, column: usize, trees: u32) {
-    if row < 17 {
-        if column < 20 {
-            table[row][column] = trees;
-        }
-    }
-}
-
-// Reads the cells that are not zero into the table.
-fn read_cells(table: &mut [[u32; 20]; 17]) {
-    let mut left = word();
-    while 0 < left {
-        let row = wide(next_byte());
-        let column = wide(next_byte());
-        put(table, row, column, count());
-        left -= 1;
-    }
-}
-
-// Adds a payload in so many turns, at least one: the last outcome.
-fn add_again(table: &mut [[u32; 20]; 17], tract: Tract, payload: &[u8], turns: usize) -> Outcome {
-    let mut last = stand::add(table, tract, payload);
-    let mut left = turns;
-    while 1 < left {
-        let outcome = stand::add(table, last.tract, payload);
-        last = outcome;
-        left -= 1;
-    }
-    last
-}
-
-// Reads a payload and how often it is added, adds it, and prints the last answer.
-fn add_payload(table: &mut [[u32; 20]; 17], tract: Tract) -> Tract {
-    let mut space = [0u8; 4096];
-    let payload = buffer(&mut space);
-    let last = add_again(table, tract, payload, word());
-    let answer = last.answer;
-    next(wide(answer.number()));
-    next(answer.place());
-    fault(answer.figure(), answer.index());
-    last.tract
-}
-
-fn add_payloads(table: &mut [[u32; 20]; 17], tract: Tract) -> Tract {
-    let mut t = tract;
-    let mut left = word();
-    while 0 < left {
-        let after = add_payload(table, t);
-        t = after;
-        left -= 1;
-    }
-    t
-}
-
-// Row, column and count of the cells of a row that are not zero.
-fn print_row(i: usize, row: [u32; 20]) {
-    let mut j = 0;
-    while j < 20 {
-        if 0 < row[j] {
-            next(i);
-            next(j);
-            next(row[j] as usize);
-        }
-        j += 1;
-    }
-}
-
-fn print_table(table: [[u32; 20]; 17]) {
-    let mut i = 0;
-    while i < 17 {
-        print_row(i, table[i]);
-        i += 1;
-    }
-}
-
-fn stand_table() {
-    let mut space = [0u8; 4096];
-    let species = buffer(&mut space);
-    let payloads = count();
-    let records = count();
-    let mut table = stand::empty();
-    read_cells(&mut table);
-    let begun = stand::begin(species).answer;
-    first(wide(begun.number()));
-    let tract = add_payloads(&mut table, Tract::new(species, payloads, records));
-    next(tract.payloads as usize);
-    next(tract.records as usize);
-    let total = stand::total(table, tract);
-    next(wide(total.number()));
-    next(total.trees() as usize);
-    let per_plot = stand::trees_per_plot(table, tract);
-    next(wide(per_plot.number()));
-    next(per_plot.quotient() as usize);
-    next(per_plot.remainder() as usize);
-    print_table(table);
 }
 
 // A vector after its first byte.

@@ -1,8 +1,8 @@
 -- `vectors::add_again` meets its contract: the count of turns left falls with each turn.
 use borrow.Author.Needs.{needs}
 use Prim.Native.Nat.{_≤_}
-use Rattle.vectors.proofs.add_again.Statement.{statement}
-use Rattle.vectors.proofs.add_again.Tie as tie
+use Rattle.vectors.proofs.tables.add_again.Statement.{statement}
+use Rattle.vectors.proofs.tables.add_again.Tie as tie
 
 abbrev Inv-loop : tie.InvT-loop
 Inv-loop table₀ payload turns last₀ left₀ table last left = left ≤ turns

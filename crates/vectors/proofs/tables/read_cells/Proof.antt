@@ -1,8 +1,8 @@
 -- `vectors::read_cells` meets its contract: the count of cells left falls with each turn.
 use borrow.Author.Needs.{needs}
 use Prim.Native.Nat.{_≤_}
-use Rattle.vectors.proofs.read_cells.Statement.{statement}
-use Rattle.vectors.proofs.read_cells.Tie as tie
+use Rattle.vectors.proofs.tables.read_cells.Statement.{statement}
+use Rattle.vectors.proofs.tables.read_cells.Tie as tie
 
 abbrev Inv-loop : tie.InvT-loop
 Inv-loop table₀ left₀ table left = left ≤ left₀

@@ -1,8 +1,8 @@
 -- `vectors::print_row` meets its contract: each turn reads at an index below 20. The measure is what is left of the row.
 use borrow.Author.Needs.{needs}
 use Prim.Native.Nat.{_≤_, _-_}
-use Rattle.vectors.proofs.print_row.Statement.{statement}
-use Rattle.vectors.proofs.print_row.Tie as tie
+use Rattle.vectors.proofs.tables.print_row.Statement.{statement}
+use Rattle.vectors.proofs.tables.print_row.Tie as tie
 
 abbrev Inv-loop : tie.InvT-loop
 Inv-loop i row j₀ j = j ≤ 20

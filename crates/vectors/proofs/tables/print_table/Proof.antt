@@ -1,8 +1,8 @@
 -- `vectors::print_table` meets its contract: each turn reads at an index below 17. The measure is what is left of the table.
 use borrow.Author.Needs.{needs}
 use Prim.Native.Nat.{_≤_, _-_}
-use Rattle.vectors.proofs.print_table.Statement.{statement}
-use Rattle.vectors.proofs.print_table.Tie as tie
+use Rattle.vectors.proofs.tables.print_table.Statement.{statement}
+use Rattle.vectors.proofs.tables.print_table.Tie as tie
 
 abbrev Inv-loop : tie.InvT-loop
 Inv-loop table i₀ i = i ≤ 17

@@ -1,8 +1,8 @@
 -- `vectors::add_payloads` meets its contract: the count of payloads left falls with each turn.
 use borrow.Author.Needs.{needs}
 use Prim.Native.Nat.{_≤_}
-use Rattle.vectors.proofs.add_payloads.Statement.{statement}
-use Rattle.vectors.proofs.add_payloads.Tie as tie
+use Rattle.vectors.proofs.tables.add_payloads.Statement.{statement}
+use Rattle.vectors.proofs.tables.add_payloads.Tie as tie
 
 abbrev Inv-loop : tie.InvT-loop
 Inv-loop table₀ t₀ left₀ table t left = left ≤ left₀
