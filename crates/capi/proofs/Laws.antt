@@ -7,7 +7,6 @@ use Rattle.lists.specs.Choice.{pick}
 use Rattle.profile.specs.declared.Profile.{Profile}
 use Rattle.block.specs.Numbers.{verdictNumber}
 use Rattle.block.specs.declared.Verdict.{Verdict}
-use lib.Dec.{eqb}
 use borrow.Author.Tests.{eq-eqb, ne-eqb}
 use Rattle.capi.specs.Numbers.{valueOrPlace, unlessRefused}
 

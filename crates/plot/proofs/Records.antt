@@ -17,7 +17,7 @@ use Rattle.plot.specs.declared.Refusal.{Refusal}
 use Rattle.plot.specs.declared.Refusal.the-variants.{PlotOrder}
 use Rattle.plot.specs.declared.Step.{Step}
 use Rattle.plot.specs.declared.Step.the-variants.{Record, End, Refused}
-use Rattle.plot.specs.Layout.{Plot, headerLength, recordLength, noLine, lineOf, lineCheck, lineHolds, figureNumber, linesCheck, linesHold}
+use Rattle.plot.specs.Layout.{Plot, headerLength, recordLength, noLine, lineCheck, lineHolds, figureNumber, linesCheck, linesHold}
 use Rattle.plot.specs.Grammar.{badLine, allZero, stepAt, lateChecked, recordAt, Stopped, onto, readStep, readFrom}
 use Rattle.plot.proofs.Lines.{not-held, all-held}
 use Rattle.plot.proofs.Cases.{pick-out, plotHere, read-on, bounds, past-header}

@@ -2,12 +2,12 @@
 -- turn to turn.
 use Prim.Native.Nat.{ℕ, suc, zero-le, _+_, _*_, _-_, _<_, _≤_}
 use native.Mathlib.Omega.{arith}
-use mathlib.Core.Path.{_≡_, sym, ap, subst, _∙_}
+use mathlib.Core.Path.{_≡_, ap, subst, _∙_}
 use mathlib.Core.Bool.{true}
 use mathlib.Core.List.{List, [], _∷_}
 use lib.ListN.{length, drop, length-append}
 use lib.Seq.{drop-drop}
-use Rattle.plot.specs.Layout.{Plot, headerLength, noLine, lineOf, linesHold, recordOf, bytesOf, tallies}
+use Rattle.plot.specs.Layout.{Plot, noLine, lineOf, linesHold, recordOf, bytesOf, tallies}
 use Rattle.plot.specs.Grammar.{stepAt, Parsed, Plots, readFrom, reading}
 use Rattle.plot.specs.declared.Line.{Line}
 use Rattle.plot.specs.declared.Cursor.{Cursor}

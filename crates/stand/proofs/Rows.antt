@@ -6,11 +6,11 @@ use native.Mathlib.Nat.{zero-add, add-zero, not-suc-le-zero, le-of-suc-le-suc}
 use mathlib.Core.Path.{_≡_, refl, sym, ap, subst, _∙_}
 use mathlib.Core.Logic.{⊎-elim}
 use mathlib.Core.Bool.{Bool, true, false}
-use mathlib.Core.List.{List, [], _∷_, _++_, append-nil}
-use lib.ListN.{length, getD, set, take, drop, replicate, length-set, length-replicate, getD-replicate, drop-of-length-le, List·getD-eq-default}
+use mathlib.Core.List.{List, [], _∷_, _++_}
+use lib.ListN.{length, getD, set, take, drop, replicate, getD-replicate, drop-of-length-le, List·getD-eq-default}
 use lib.Seq.{drop-cons, take-all, getD-take, length-take-le, getD-set-same, getD-set-other, ext-getD}
 use lib.Dec.{eqb}
-use borrow.Author.Tests.{eq-eqb, ne-eqb, eqb-true, eqb-false}
+use borrow.Author.Tests.{eqb-true, eqb-false}
 use Rattle.lists.specs.Choice.{pick}
 use Rattle.lists.proofs.Test.{lt-or-ge}
 use Rattle.stand.specs.Table.{placesOf, rowFrom, rowOf, tabulateFrom, rowsOf}

@@ -1,6 +1,6 @@
 -- What each entry on a stand table answers and leaves (N4b, N4d, N4e, N4f). Numbers.antt has the numbers of each answer.
 use Prim.Native.Nat.{ℕ, _+_, _/_, _%_}
-use mathlib.Core.Bool.{Bool, false, not}
+use mathlib.Core.Bool.{not}
 use mathlib.Core.List.{List}
 use lib.ListN.{length}
 use lib.Dec.{ltb, leb, eqb}

@@ -1,11 +1,11 @@
 -- The stand table of document 02's Note 4 (N4a, N4c): rows by species, columns by diameter class, and the trees of tally lines added to it. A table is a list of
 -- rows, a row a list of counts; a tract has the species list and two counters beside it.
 use Prim.Native.Nat.{ℕ, zero, suc, _+_, _-_, _/_}
-use mathlib.Core.Bool.{Bool, true, false, not}
+use mathlib.Core.Bool.{Bool, true, false}
 use mathlib.Core.List.{List, [], _∷_, _++_}
 use lib.ListN.{length, getD, set, take, drop, replicate}
-use lib.Dec.{ltb, leb, eqb}
-use Rattle.lists.specs.Choice.{pick, both}
+use lib.Dec.{ltb, eqb}
+use Rattle.lists.specs.Choice.{pick}
 use Rattle.plot.specs.Layout.{Plot, within, talliesOf}
 use Rattle.plot.specs.Grammar.{Parsed, Plots, Stopped}
 use Rattle.plot.specs.declared.Line.{Line}

@@ -14,9 +14,8 @@ use list::species_hold;
 use plot::Checked;
 ghost use mathlib.Core.Path.{_≡_};
 ghost use Prim.Native.Nat.{_+_, _≤_};
-ghost use lib.ListN.{replicate};
 ghost use Rattle.stand.specs.declared.Answer.the-variants.{Accepted};
-ghost use Rattle.stand.specs.Table.{limitsHold};
+ghost use Rattle.stand.specs.Table.{emptyTable, limitsHold};
 ghost use Rattle.stand.specs.Answers.{tractOf, begunAnswer, judged, withRecords, addAnswer, addTable, addTract, totalAnswer, perPlotAnswer};
 
 /// Payloads in a tract, at most.
@@ -67,7 +66,7 @@ pub enum PerPlot {
 
 /// A table with no tree in it.
 pub fn empty() -> [[u32; 20]; 17]
-    ensures { λ r. ⌜ r ≡ replicate 17 (replicate 20 0) ⌝ }
+    ensures { λ r. ⌜ r ≡ emptyTable ⌝ }
 {
     [[0u32; 20]; 17]
 }

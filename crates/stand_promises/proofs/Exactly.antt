@@ -4,15 +4,12 @@ use mathlib.Core.Path.{_≡_, refl, sym, ap, subst, _∙_}
 use mathlib.Core.Logic.{_⊎_, _↔_, _≢_, inl, inr, ⊎-elim}
 use mathlib.Core.Bool.{Bool, true, false}
 use mathlib.Core.List.{List, [], _∷_, _++_}
-use Prim.Native.Nat.{ℕ, _+_, _*_, _/_, _%_, _<_, _≤_}
+use Prim.Native.Nat.{ℕ, _+_, _/_, _%_, _<_, _≤_}
 use native.Mathlib.Omega.{arith}
 use native.Mathlib.Nat.{div-add-mod', mod-lt}
-use lib.ListN.{length, take, drop, replicate, length-take}
+use lib.ListN.{length, take, drop, replicate}
 use lib.Seq.{take-all, take-at}
-use lib.Dec.{eqb}
-use borrow.Author.Tests.{eqb-true, eqb-false}
-use Rattle.lists.proofs.Test.{true-false, true-or-false, zero-or}
-use Rattle.plot.specs.declared.Refusal.{Refusal}
+use Rattle.lists.proofs.Test.{true-false, zero-or}
 use Rattle.plot.specs.declared.Refusal.the-variants.{WrongLength}
 use Rattle.plot.specs.Layout.{Plot, bytesOf}
 use Rattle.plot.specs.Grammar.{Parsed, Plots, Stopped, longest, reading}
@@ -33,13 +30,13 @@ use Rattle.stand.specs.declared.TreeTotal.{TreeTotal}
 use Rattle.stand.specs.declared.TreeTotal.the-variants as total-as
 use Rattle.stand.specs.declared.PerPlot.the-variants as per-plot-as
 use Rattle.stand.specs.Table.{listOf, placesOf, speciesHold, tractListed, rowsOf, cellOf, plusPlots, plotsIn, most, limitsHold, tableTotal}
-use Rattle.stand.specs.Answers.{tractOf, begunAnswer, payloadAnswer, judged, addAnswer, tableAfter, tractAfter, addTable, addTract, totalAnswer, perPlotOf, perPlotAnswer}
+use Rattle.stand.specs.Answers.{tractOf, begunAnswer, payloadAnswer, judged, addAnswer, tractAfter, addTable, addTract, totalAnswer, perPlotAnswer}
 use Rattle.stand.specs.Numbers.{refusedNumber, answerNumber, answerPlace, answerFigure, answerIndex, totalNumber, totalTrees, perPlotNumber, perPlotQuotient, perPlotRemainder}
-use Rattle.stand.proofs.Limits.{Within, limits-iff}
+use Rattle.stand.proofs.Limits.{limits-iff}
 use Rattle.stand.proofs.Counting.{read-plots, records-few}
 use Rattle.stand.proofs.Entries.{begun-refused, begun-accepted, Added, added, left-table, left-tract, new-table, new-tract, per-plot-none, per-plot-some, per-plot-refused}
 use Rattle.stand_promises.specs.Species.{Listed, TractListed}
-use Rattle.stand_promises.specs.Trees.{linesIn, treesAt}
+use Rattle.stand_promises.specs.Trees.{linesIn}
 use Rattle.stand_promises.specs.Exactly.{Shape, Limits, stateChecks, addingChecks, perPlotChecks, BeginningExactly, AddingPayload, TotalExactly, PerPlotExactly}
 use Rattle.stand_promises.proofs.Species.{species-iff, tract-iff}
 use Rattle.stand_promises.proofs.Trees.{Does, does-plots}

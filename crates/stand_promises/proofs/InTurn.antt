@@ -2,15 +2,13 @@
 -- add at most 344,080,000 to a cell; so nothing but the payload itself and the thousand decides.
 use mathlib.Core.Path.{_≡_, refl, sym, ap, ap₂, subst, _∙_}
 use mathlib.Core.Logic.{_↔_, _≢_, inl, ⊎-elim}
-use mathlib.Core.Bool.{Bool, true, false}
+use mathlib.Core.Bool.{Bool}
 use mathlib.Core.List.{List, [], _∷_, _++_, flatMap, append-assoc}
 use Prim.Native.Nat.{ℕ, zero, suc, zero-le, _+_, _*_, _<_, _≤_}
 use native.Mathlib.Omega.{arith}
 use native.Mathlib.Nat.{le-of-eq}
-use lib.ListN.{length, getD, take, replicate, length-append, getD-replicate, length-replicate}
-use lib.Dec.{eqb}
-use borrow.Author.Tests.{eq-eqb, ne-eqb, eqb-true, eqb-false}
-use Rattle.lists.specs.Choice.{pick}
+use lib.ListN.{length, getD, take, replicate, length-append, getD-replicate}
+use borrow.Author.Tests.{eq-eqb, ne-eqb}
 use Rattle.lists.specs.Bytes.{Bytes}
 use Rattle.lists.proofs.Test.{zero-or}
 use Rattle.plot.specs.declared.Line.{Line}
@@ -28,9 +26,9 @@ use Rattle.stand.specs.Table.{listOf, emptyTable, cellOf, rowTotal, tableTotal}
 use Rattle.stand.specs.Answers.{totalAnswer, perPlotAnswer}
 use Rattle.stand.specs.Numbers.{totalNumber, totalTrees, perPlotNumber, perPlotQuotient, perPlotRemainder}
 use Rattle.stand_promises.specs.Species.{Listed, TractListed}
-use Rattle.stand_promises.specs.Trees.{linesIn, treesWhere, inCell, treesAt, allTrees}
+use Rattle.stand_promises.specs.Trees.{linesIn, treesWhere, allTrees}
 use Rattle.stand_promises.specs.Exactly.{Shape, Limits, stateChecks, perPlotChecks}
-use Rattle.stand_promises.specs.InTurn.{State, begun, numberAt, after, afterAll, acceptedOf, AllContain, AllBytes, together, Holds, AddedInTurn, InTurn}
+use Rattle.stand_promises.specs.InTurn.{State, begun, numberAt, after, afterAll, acceptedOf, AllContain, AllBytes, together, Holds, InTurn}
 use Rattle.stand_promises.proofs.Trees.{Does, does-none, does-then, trees-append}
 use Rattle.stand_promises.proofs.Exactly.{beginning-exactly, adding-payload, does, counts, grows, counters-grow, unchanged, total-exactly, per-plot-exactly}
 

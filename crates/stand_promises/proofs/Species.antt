@@ -4,7 +4,7 @@ use mathlib.Core.Path.{_≡_, refl, sym, subst, _∙_}
 use mathlib.Core.Logic.{_⊎_, _↔_, _≢_, inl, inr, ⊎-elim}
 use mathlib.Core.Bool.{Bool, true, false}
 use mathlib.Core.List.{List, [], _∷_}
-use Prim.Native.Nat.{ℕ, zero, suc, zero-le, suc-le-suc, _+_, _*_, _-_, _/_, _%_, _<_, _≤_}
+use Prim.Native.Nat.{ℕ, zero, suc, zero-le, suc-le-suc, _+_, _*_, _-_, _%_, _<_, _≤_}
 use native.Mathlib.Omega.{arith}
 use native.Mathlib.Nat.{not-suc-le-zero, le-of-suc-le-suc, div-add-mod', mod-lt, add-zero, zero-add}
 use lib.ListN.{length, getD, length-take}
@@ -17,7 +17,7 @@ use Rattle.plot.proofs.Cases.{pick-out}
 use Rattle.plot_promises.proofs.Lines.{within-iff, pick-true}
 use Rattle.stand.specs.declared.Tract.{Tract}
 use Rattle.stand.specs.Table.{listOf, among, numbersHold, speciesHold, tractListed, rowFrom, rowOf, columnOf}
-use Rattle.stand_promises.specs.Species.{Listed, TractListed, RowIff, RowsIff, ColumnsIff}
+use Rattle.stand_promises.specs.Species.{Listed, TractListed, RowsIff, ColumnsIff}
 
 -- a number that is not among others
 among-not : (x : ℕ) (l : List ℕ) → among x l ≡ false → (i : ℕ) → i < length l → getD l i 0 ≢ x

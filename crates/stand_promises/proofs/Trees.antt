@@ -1,10 +1,9 @@
 -- What counting lines into a table does to its cells and to its sum: each line adds its trees to the one cell of its row and its column. By induction along the lines and
 -- the plots.
-use mathlib.Core.Path.{_≡_, refl, sym, ap, ap₂, subst, _∙_}
-use mathlib.Core.Logic.{_≢_, ⊎-elim}
+use mathlib.Core.Path.{_≡_, refl, sym, ap, subst, _∙_}
 use mathlib.Core.Bool.{Bool, true, false}
 use mathlib.Core.List.{List, [], _∷_, _++_, flatMap}
-use Prim.Native.Nat.{ℕ, zero, suc, zero-le, suc-le-suc, _+_, _*_, _<_, _≤_}
+use Prim.Native.Nat.{ℕ, zero, suc, zero-le, suc-le-suc, _+_, _<_, _≤_}
 use native.Mathlib.Omega.{arith}
 use native.Mathlib.Nat.{not-suc-le-zero, le-of-suc-le-suc, zero-add}
 use lib.ListN.{length, getD, set, drop, length-set}
@@ -12,7 +11,7 @@ use lib.Seq.{getD-set-same, getD-set-other}
 use lib.Dec.{eqb}
 use borrow.Author.Tests.{eqb-true, eqb-false}
 use Rattle.lists.specs.Choice.{pick, both}
-use Rattle.plot.specs.Layout.{Plot, noLine, lineOf, linesOf, tallies, talliesOf}
+use Rattle.plot.specs.Layout.{Plot, noLine, linesOf, tallies, talliesOf}
 use Rattle.plot.specs.declared.Line.{Line}
 use Rattle.plot_promises.specs.Lines.{lineAt, InRanges}
 use Rattle.plot_promises.specs.Canonical.{Rising}
@@ -20,7 +19,7 @@ use Rattle.plot_promises.proofs.Lines.{line-after}
 use Rattle.stand.specs.Table.{rowOf, rowsOf, columnOf, cellOf, plusAt, plusLine, plusLines, plusPlots, rowTotal, tableTotal}
 use Rattle.stand.proofs.Rows.{getD-tabulate, row-most}
 use Rattle.stand.proofs.Cells.{plus-here, plus-other}
-use Rattle.stand_promises.specs.Trees.{TallyLines, linesIn, treesWhere, inCell, treesAt, allTrees}
+use Rattle.stand_promises.specs.Trees.{TallyLines, linesIn, treesWhere, inCell}
 use Rattle.stand_promises.specs.Exactly.{Shape}
 use Rattle.stand_promises.proofs.Species.{columns-iff}
 

@@ -3,7 +3,7 @@
 use mathlib.Core.Path.{_≡_}
 use mathlib.Core.Logic.{_↔_, _≢_}
 use mathlib.Core.List.{List, [], _∷_, flatMap}
-use Prim.Native.Nat.{ℕ, _+_, _*_, _<_, _≤_}
+use Prim.Native.Nat.{ℕ, _+_, _*_, _<_}
 use lib.ListN.{length}
 use lib.Dec.{eqb}
 use Rattle.lists.specs.Choice.{pick}
@@ -13,7 +13,7 @@ use Rattle.plot.specs.Answers.{checked}
 use Rattle.plot.specs.Numbers.{payloadNumber}
 use Rattle.plot_promises.specs.Canonical.{Contains}
 use Rattle.stand.specs.declared.Tract.{Tract}
-use Rattle.stand.specs.Table.{emptyTable, listOf, cellOf}
+use Rattle.stand.specs.Table.{emptyTable, cellOf}
 use Rattle.stand.specs.Answers.{tractOf, addAnswer, addTable, addTract, totalAnswer, perPlotAnswer}
 use Rattle.stand.specs.Numbers.{answerNumber, totalNumber, totalTrees, perPlotNumber, perPlotQuotient, perPlotRemainder}
 use Rattle.stand_promises.specs.Species.{Listed}

@@ -1,12 +1,11 @@
 -- A state that is refused is left. Else the records are counted as they are checked: where all are accepted that is the new table, and where one is refused the table is put back.
-use Prim.Native.Nat.{ℕ, _+_, _≤_}
+use Prim.Native.Nat.{ℕ, _≤_}
 use native.Mathlib.Omega.{arith}
 use mathlib.Core.Path.{_≡_, sym, ap, ap₂, subst, _∙_}
 use mathlib.Core.List.{List}
 use lib.ListN.{length, length-take}
 use borrow.Author.Needs.{needs}
-use Rattle.plot.specs.Layout.{Plot}
-use Rattle.plot.specs.Grammar.{Plots, Readable, reading}
+use Rattle.plot.specs.Grammar.{Readable, reading}
 use Rattle.plot.proofs.Entries.{checked-accepted, checked-refused}
 use Rattle.stand.specs.declared.Tract.{Tract}
 use Rattle.stand.specs.declared.Answer.{Answer}
@@ -14,7 +13,7 @@ use Rattle.stand.specs.declared.Answer.the-variants.{Accepted}
 use Rattle.stand.specs.declared.Outcome.{Outcome}
 use Rattle.stand.specs.Table.{listOf, plusPlots, plotsIn}
 use Rattle.stand.specs.Bounds.{RowsFit}
-use Rattle.stand.specs.Answers.{judged, withRecords}
+use Rattle.stand.specs.Answers.{withRecords}
 use Rattle.stand.proofs.Rows.{rows-fit}
 use Rattle.stand.proofs.Counting.{records-few}
 use Rattle.stand.proofs.Entries.{Open, open-of, add-plots, add-stopped, add-refused, left-table, left-tract, new-table, new-tract, listed-few}

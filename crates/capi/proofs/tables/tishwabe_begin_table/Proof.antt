@@ -1,5 +1,5 @@
 -- Where the list is taken, an empty table and counters of 0; else nothing is written.
-use mathlib.Core.Path.{_≡_, sym, ap, _∙_}
+use mathlib.Core.Path.{sym, _∙_}
 use Rattle.stand.specs.declared.Outcome.{Outcome}
 use Rattle.stand.specs.Numbers.{answerNumber}
 use Rattle.capi.proofs.Laws.{number-of, written, kept}

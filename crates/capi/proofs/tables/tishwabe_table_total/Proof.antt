@@ -1,6 +1,5 @@
 -- The total at the tract that is handed in, with its numbers.
 use mathlib.Core.Path.{ap, _∙_}
-use Rattle.stand.specs.declared.Tract.{Tract}
 use Rattle.stand.specs.Answers.{totalAnswer}
 use Rattle.stand.specs.Numbers.{totalNumber, totalTrees}
 use Rattle.capi.proofs.Laws.{number-of}

@@ -1,9 +1,9 @@
 -- One cell is read and stored again with the trees of the line; row and column lie within the table by the ranges of the line and of the rows.
-use Prim.Native.Nat.{ℕ, _<_, _≤_}
+use Prim.Native.Nat.{ℕ, _≤_}
 use native.Mathlib.Omega.{arith}
-use mathlib.Core.Path.{_≡_, ap}
+use mathlib.Core.Path.{ap}
 use lib.ListN.{getD}
-use Rattle.stand.specs.Table.{cellOf, plusAt, plusLine}
+use Rattle.stand.specs.Table.{plusAt, plusLine}
 use borrow.Author.Needs.{needs}
 use Rattle.stand.proofs.count.count_line.Statement.{statement}
 use Rattle.stand.proofs.count.count_line.Tie as tie

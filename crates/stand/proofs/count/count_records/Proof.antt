@@ -1,6 +1,6 @@
 -- The whole reading is the reading from the cursor on, and where it gives plots, those that are left to count are the ones from the cursor on; the measure is the
 -- bytes left. Each record has five bytes or more, and a cell grows by at most 85 a byte.
-use Prim.Native.Nat.{ℕ, suc, _+_, _*_, _-_, _≤_}
+use Prim.Native.Nat.{ℕ, _+_, _*_, _-_, _≤_}
 use native.Mathlib.Omega.{arith}
 use mathlib.Core.Path.{_≡_, refl, sym, ap, subst, _∙_}
 use mathlib.Core.List.{List}
