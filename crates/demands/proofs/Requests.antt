@@ -13,6 +13,7 @@ use Rattle.sheet.proofs.Promise.{sheet-promise}
 use Rattle.sheet.proofs.LimitFree.{sheet-limit-free}
 use Rattle.plot.proofs.Sheets.{same-after-errors}
 use Rattle.plot_promises.proofs.Lines.{line-check-exactly}
+use Rattle.plot_promises.proofs.Stepping.{moving-exactly}
 use Rattle.plot_promises.proofs.FirstBad.{first-line-rises}
 use Rattle.plot_promises.proofs.Figures.{figures}
 use Rattle.stand_promises.proofs.Species.{rows-iff, columns-iff}
@@ -65,6 +66,7 @@ request-4 = record {
   rows = rows-iff;
   columns = columns-iff;
   tallies = tally-lines;
+  moving = moving-exactly;
   beginning = beginning-exactly;
   adding = adding-payload;
   total = total-exactly;

@@ -21,6 +21,7 @@ use Rattle.sheet.specs.Promise.{FewErrors}
 use Rattle.plot.specs.declared.Line.{Line}
 use Rattle.plot.specs.Layout.{Plot}
 use Rattle.plot.specs.Sheets.{SameAfterErrors}
+use Rattle.plot_promises.specs.Refusals.{MovingExactly}
 use Rattle.plot_promises.specs.Figures.{LineCheckExactly, FirstLineRises, Figures}
 use Rattle.stand.specs.declared.Tract.{Tract}
 use Rattle.stand_promises.specs.Species.{RowsIff, ColumnsIff}
@@ -99,8 +100,9 @@ pub record Request4 : Type 0 where
   pub rows : RowsIff
   -- ".. twenty columns take classes 1 to 10, 11 to 20 and on to 191 to 200."
   pub columns : ColumnsIff
-  -- ".. all added tallies, counted from the records ..": the tally lines of a plot are those of its record
+  -- ".. all added tallies, counted from the records ..": the tally lines of a plot are those of its record; the records are read by a cursor that makes every check of each
   pub tallies : (p : Plot) → TallyLines p
+  pub moving : (at last : ℕ) (s : List ℕ) → MovingExactly at last s
   -- "A refused payload leaves the table unchanged. Answers, for a state handed in too: 13 species list, after 2, for a listed number outside 1 to 99, a repeat, or more than
   -- 16; 14 tract full, next, for a payload beyond 1,000 or a cell or counter handed in above 400,000,000; ..": of each entry, for every state
   pub beginning : (l : List ℕ) → BeginningExactly l

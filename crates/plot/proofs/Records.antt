@@ -3,7 +3,7 @@ use Prim.Native.Nat.{ℕ, zero, suc, _+_, _*_, _-_, _/_, _<_, _≤_}
 use native.Mathlib.Omega.{arith}
 use native.Mathlib.Nat.{mul-div-left, not-suc-le-zero}
 use mathlib.Core.Path.{_≡_, refl, sym, ap, subst, _∙_}
-use mathlib.Core.Bool.{true, not}
+use mathlib.Core.Bool.{true, false, not}
 use mathlib.Core.List.{List, [], _∷_, _++_}
 use lib.ListN.{length, take, drop, length-drop, take-append-drop}
 use lib.Seq.{length-take-le, drop-drop}
@@ -17,9 +17,8 @@ use Rattle.plot.specs.declared.Refusal.{Refusal}
 use Rattle.plot.specs.declared.Refusal.the-variants.{PlotOrder}
 use Rattle.plot.specs.declared.Step.{Step}
 use Rattle.plot.specs.declared.Step.the-variants.{Record, End, Refused}
-use Rattle.plot.specs.Layout.{Plot, headerLength, recordLength, noLine, lineCheck, lineHolds, figureNumber, linesCheck, linesHold}
+use Rattle.plot.specs.Layout.{Plot, headerLength, recordLength, noLine, lineCheck, lineHolds, linesCheck, linesHold}
 use Rattle.plot.specs.Grammar.{badLine, allZero, stepAt, lateChecked, recordAt, Stopped, onto, readStep, readFrom}
-use Rattle.plot.proofs.Lines.{not-held, all-held}
 use Rattle.plot.proofs.Cases.{pick-out, plotHere, read-on, bounds, past-header}
 
 -- lines are checked by their own bytes
@@ -66,19 +65,19 @@ module _ (at last : ℕ) (s : List ℕ) where
   unfolding lateChecked
   late-refused r e = rw e
 
-  module _ (from count : ℕ) (next : Cursor) (e : stepAt at s ≡ Record from count next) (found : LinesCheck) (is : linesCheck noLine 0 count (drop headerLength s) ≡ found) where
-    pub late-lines : (figureNumber (found .check) ≡ 0 → ⊥) → Refused (badLine at found) ≡ recordAt at last s
+  module _ (from count : ℕ) (next : Cursor) (e : stepAt at s ≡ Record from count next) where
+    pub late-lines : linesHold noLine count (drop headerLength s) ≡ false → Refused (badLine at (linesCheck noLine 0 count (drop headerLength s))) ≡ recordAt at last s
     unfolding lateChecked
-    late-lines g = rw (e, not-held noLine count (drop headerLength s) found is g, is)
+    late-lines g = rw (e, g)
 
-    module _ (g : figureNumber (found .check) ≡ 0) where
+    module _ (g : linesHold noLine count (drop headerLength s) ≡ true) where
       pub late-order : next .last ≤ last → Refused (PlotOrder at) ≡ recordAt at last s
       unfolding lateChecked
-      late-order o = rw (e, all-held noLine count (drop headerLength s) found is g, le-leb _ _ o)
+      late-order o = rw (e, g, le-leb _ _ o)
 
       pub late-record : last < next .last → Record from count next ≡ recordAt at last s
       unfolding lateChecked
-      late-record o = rw (e, all-held noLine count (drop headerLength s) found is g, lt-leb _ _ o)
+      late-record o = rw (e, g, lt-leb _ _ o)
 
 -- and what the answer says: a record whose checks all hold ..
 pub record Holding (at last : ℕ) (s : List ℕ) (from count : ℕ) (next : Cursor) : Type 0 where
@@ -90,7 +89,7 @@ pub record Holding (at last : ℕ) (s : List ℕ) (from count : ℕ) (next : Cur
 not-end : (from count : ℕ) (next : Cursor) → End ≡ Record from count next → ⊥
 not-end from count next e = let z : _≡_ {A = ℕ} 0 1 = cc in omega arith
 
-not-refused : (r : Refusal) (from count : ℕ) (next : Cursor) → Refused r ≡ Record from count next → ⊥
+pub not-refused : (r : Refusal) (from count : ℕ) (next : Cursor) → Refused r ≡ Record from count next → ⊥
 not-refused r from count next e = let z : _≡_ {A = ℕ} 0 1 = cc in omega arith
 
 module _ (at last : ℕ) (s : List ℕ) (from count : ℕ) (next : Cursor) where

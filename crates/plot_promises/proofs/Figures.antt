@@ -4,25 +4,29 @@ use mathlib.Core.Path.{_≡_, refl, sym, ap, subst, _∙_}
 use mathlib.Core.Logic.{_⊎_, _≢_, inl, inr, ⊎-elim}
 use mathlib.Core.List.{List, [], _∷_}
 use Prim.Native.Nat.{ℕ, _+_}
+use native.Mathlib.Omega.{arith}
 use lib.ListN.{length}
 use lib.Dec.{eqb}
 use Rattle.lists.specs.Bytes.{Bytes}
 use Rattle.lists.proofs.Test.{pick-of}
 use Rattle.plot.specs.declared.Refusal.{Refusal}
+use Rattle.plot.specs.declared.Step.the-variants.{End, Refused}
 use Rattle.plot.specs.declared.Located.{Located}
 use Rattle.plot.specs.declared.Located.the-variants.{At}
 use Rattle.plot.specs.declared.Added.{Added}
 use Rattle.plot.specs.declared.Added.the-variants as added-as
 use Rattle.plot.specs.Layout.{Plot, linesOf, recordOf}
-use Rattle.plot.specs.Grammar.{Parsed, Plots, Stopped, reading}
+use Rattle.plot.specs.Grammar.{recordAt, Parsed, Plots, Stopped, reading}
 use Rattle.plot.specs.Answers.{checked, seek, located, added}
 use Rattle.plot.specs.Numbers.{numberOf, placeOf, figureOf, indexOf, payloadNumber, payloadPlace, payloadFigure, payloadIndex, locatedNumber, locatedPlace, locatedFigure, locatedIndex, addedNumber, addedPlace, addedFigure, addedIndex}
+use Rattle.plot.proofs.Records.{not-refused, late-end, late-record}
 use Rattle.plot.proofs.Entries.{located-plots, located-stopped, added-stopped}
 use Rattle.plot_promises.specs.Canonical.{Contains}
 use Rattle.plot_promises.specs.Refusals.{endOf}
-use Rattle.plot_promises.specs.Figures.{BadLineAt, BadLentHere, BadLineAdded, FigureExactly, Figures}
-use Rattle.plot_promises.proofs.Refusals.{Tells, in-line, in-none}
+use Rattle.plot_promises.specs.Figures.{BadLineHere, BadLineAt, BadLentHere, BadLineAdded, FigureExactly, Figures}
+use Rattle.plot_promises.proofs.Refusals.{Tells, LineOf, in-line, in-none}
 use Rattle.plot_promises.proofs.FirstBad.{bad-some, bad-index, bad-figure, hold-no-first}
+use Rattle.plot_promises.proofs.Turn.{RecordIs, nothing, fault, holds, record-is}
 use Rattle.plot_promises.proofs.Stepping.{stepping-no-line}
 use Rattle.plot_promises.proofs.Canonical.{reading-contains}
 use Rattle.plot_promises.proofs.Checking.{checks-plots, checks-stopped, stopped-line, line-stops}
@@ -154,5 +158,30 @@ module _ (p : Plot) (s : List ℕ) (b : Bytes s) where
   pub adding-figure : FigureExactly (BadLineAdded p s) (addedNumber a) (addedPlace a) (addedFigure a) (addedIndex a)
   adding-figure = figure-exactly (BadLineAdded p s) _ _ _ _ (adding-sound (reading s) refl) adding-complete
 
+-- a record with every check of it made
+module _ (at last : ℕ) (s : List ℕ) (r : Refusal) where
+  abbrev BadHere : ℕ → ℕ → ℕ → Type 0
+  BadHere place figure index = (place ≡ at) × BadLineHere s figure index
+
+  abbrev RecordFigure : Type 0
+  RecordFigure = FigureExactly BadHere (numberOf r) (placeOf r) (figureOf r) (indexOf r)
+
+  by-line : placeOf r ≡ at → LineOf (BadLineHere s) r → RecordFigure
+  by-line p (in-line n x) =
+      figure-exactly BadHere (numberOf r) (placeOf r) (figureOf r) (indexOf r) (inl (n, (p, x)))
+      (λ k f i b. (bad-some _ _ f i (b .1 .1), (n, p ∙ sym (b .0), bad-figure _ _ _ _ _ _ (x .1) (b .1 .1), bad-index _ _ _ _ _ _ (x .1) (b .1 .1))))
+  by-line p (in-none o never) = figure-exactly BadHere (numberOf r) (placeOf r) (figureOf r) (indexOf r) (inr o) (λ k f i b. absurd (never f i (b .1)))
+
+  by-record : recordAt at last s ≡ Refused r → RecordIs at last s → RecordFigure
+  by-record q (nothing z e) = absurd (let same : End ≡ Refused r = late-end at last s e ∙ q in let y : _≡_ {A = ℕ} 0 1 = cc same in omega arith)
+  by-record q (fault r′ e p l y) =
+      let same : Refused r′ ≡ Refused r = sym e ∙ q in
+      let is : r′ ≡ r = cc same in
+      by-line (subst (λ (x : Refusal). placeOf x ≡ at) is p) (subst (LineOf (BadLineHere s)) is l)
+  by-record q (holds z a e g o) = absurd (not-refused r _ _ _ (sym q ∙ sym (late-record at last s _ _ _ e g o)))
+
+  moving-figure : recordAt at last s ≡ Refused r → RecordFigure
+  moving-figure q = by-record q (record-is at last s)
+
 pub figures : Figures
-figures = record { stepping = stepping-no-line; checking = checking-figure; asking = asking-figure; adding = adding-figure }
+figures = record { stepping = stepping-no-line; moving = moving-figure; checking = checking-figure; asking = asking-figure; adding = adding-figure }

@@ -1,4 +1,5 @@
--- What stands at a place, exactly when (SteppingExactly): one of the three cases of proofs/Place.antt, and each excludes the others.
+-- What stands at a place, exactly when, with the checks before the lines (SteppingExactly) and with all of them (MovingExactly): one of three cases, and each excludes the
+-- others.
 use mathlib.Core.Path.{_≡_, sym, ap, ap₂, subst, _∙_}
 use mathlib.Core.Logic.{_≢_}
 use mathlib.Core.List.{List}
@@ -10,13 +11,15 @@ use Rattle.plot.specs.declared.Refusal.{Refusal}
 use Rattle.plot.specs.declared.Step.{Step}
 use Rattle.plot.specs.declared.Step.the-variants.{Record, End, Refused}
 use Rattle.plot.specs.Layout.{headerLength, plotOf, countOf, recordLength}
-use Rattle.plot.specs.Grammar.{stepAt}
+use Rattle.plot.specs.Grammar.{stepAt, recordAt}
 use Rattle.plot.specs.Numbers.{numberOf, placeOf}
-use Rattle.plot_promises.specs.Checks.{NoneFails, headerChecks, Zeros, FaultAt}
-use Rattle.plot_promises.specs.Refusals.{SteppingExactly}
-use Rattle.plot_promises.proofs.Place.{recordHere, StepIs, ends, stops, goes-on, step-is}
+use Rattle.plot.proofs.Records.{late-end, late-record}
+use Rattle.plot_promises.specs.Checks.{Check, NoneFails, headerChecks, recordChecks, Zeros, FaultAt}
+use Rattle.plot_promises.specs.Refusals.{StandsExactly, SteppingExactly, MovingExactly}
+use Rattle.plot_promises.proofs.Place as place
+use Rattle.plot_promises.proofs.Place.{recordHere, StepIs, step-is}
 use Rattle.plot_promises.proofs.Refusals.{NoLine}
-use Rattle.plot_promises.proofs.Turn.{zeros-first, fault-one, not-zeros, not-record}
+use Rattle.plot_promises.proofs.Turn.{zeros-first, fault-one, not-zeros, not-record, RecordIs, nothing, fault, holds, record-is}
 
 -- the three answers differ
 end-record : (lines count : ℕ) (next : Cursor) → End ≡ Record lines count next → ⊥
@@ -38,34 +41,40 @@ lastOf (Record lines count next) = next .last
 lastOf End = 0
 lastOf (Refused r) = 0
 
-module _ (at : ℕ) (s : List ℕ) where
-  abbrev RecordIs : ℕ → ℕ → Cursor → Type 0
-  RecordIs lines count next =
-      (getD s 0 0 ≢ 0) × NoneFails (headerChecks s) × (lines ≡ at + 5) × (count ≡ countOf s) × (next .at ≡ at + recordLength (countOf s)) × (next .last ≡ plotOf s)
+-- an answer is one of three, with these checks of a record
+module _ (answer : Step) (checks : List Check) (at : ℕ) (s : List ℕ) where
+  data AnswerIs : Type 0 where
+    ends : Zeros s → answer ≡ End → AnswerIs
+    stops : (r : Refusal) → answer ≡ Refused r → placeOf r ≡ at → FaultAt checks s (numberOf r) → AnswerIs
+    goes-on : getD s 0 0 ≢ 0 → NoneFails checks → answer ≡ recordHere at s → AnswerIs
 
-  ended : StepIs at s → stepAt at s ≡ End → Zeros s
+  abbrev Passes : ℕ → ℕ → Cursor → Type 0
+  Passes lines count next =
+      (getD s 0 0 ≢ 0) × NoneFails checks × (lines ≡ at + 5) × (count ≡ countOf s) × (next .at ≡ at + recordLength (countOf s)) × (next .last ≡ plotOf s)
+
+  ended : AnswerIs → answer ≡ End → Zeros s
   ended (ends z e) q = z
-  ended (stops r e p o k) q = absurd (end-refused r (sym q ∙ e))
+  ended (stops r e p k) q = absurd (end-refused r (sym q ∙ e))
   ended (goes-on z a e) q = absurd (end-record _ _ _ (sym q ∙ e))
 
-  zeros-end : StepIs at s → Zeros s → stepAt at s ≡ End
+  zeros-end : AnswerIs → Zeros s → answer ≡ End
   zeros-end (ends z e) h = e
-  zeros-end (stops r e p o k) h = absurd (not-zeros (headerChecks s) s (numberOf r) k h)
+  zeros-end (stops r e p k) h = absurd (not-zeros checks s (numberOf r) k h)
   zeros-end (goes-on z a e) h = absurd (z (zeros-first s h))
 
-  record-is : (lines count : ℕ) (next : Cursor) → StepIs at s → stepAt at s ≡ Record lines count next → RecordIs lines count next
+  passes : (lines count : ℕ) (next : Cursor) → AnswerIs → answer ≡ Record lines count next → Passes lines count next
   unfolding atOf lastOf
-  record-is lines count next (ends z e) q = absurd (end-record lines count next (sym e ∙ q))
-  record-is lines count next (stops r e p o k) q = absurd (record-refused lines count next r (sym q ∙ e))
-  record-is lines count next (goes-on z a e) q =
+  passes lines count next (ends z e) q = absurd (end-record lines count next (sym e ∙ q))
+  passes lines count next (stops r e p k) q = absurd (record-refused lines count next r (sym q ∙ e))
+  passes lines count next (goes-on z a e) q =
       let same : Record lines count next ≡ recordHere at s = sym q ∙ e in
       let l : lines ≡ at + headerLength = cc same in
       let c : count ≡ countOf s = cc same in
       (z, a, l, c, ap atOf same, ap lastOf same)
 
-  is-record : (lines count : ℕ) (next : Cursor) → StepIs at s → RecordIs lines count next → stepAt at s ≡ Record lines count next
+  is-record : (lines count : ℕ) (next : Cursor) → AnswerIs → Passes lines count next → answer ≡ Record lines count next
   is-record lines count next (ends z e) h = absurd (h .0 (zeros-first s z))
-  is-record lines count next (stops r e p o k) h = absurd (not-record (headerChecks s) s (numberOf r) (h .0) k (h .1))
+  is-record lines count next (stops r e p k) h = absurd (not-record checks s (numberOf r) (h .0) k (h .1))
   is-record lines count next (goes-on z a e) h =
       let l : at + headerLength ≡ lines = sym (h .2) in
       let c : countOf s ≡ count = sym (h .3) in
@@ -74,38 +83,52 @@ module _ (at : ℕ) (s : List ℕ) where
       ∙ ap₂ (λ (k : ℕ) (d : Cursor). Record lines k d) c n
 
   abbrev RefusedAt : ℕ → ℕ → Type 0
-  RefusedAt number place = (r : Refusal) × (stepAt at s ≡ Refused r) × (numberOf r ≡ number) × (placeOf r ≡ place)
+  RefusedAt number place = (r : Refusal) × (answer ≡ Refused r) × (numberOf r ≡ number) × (placeOf r ≡ place)
 
-  fault-is : (number place : ℕ) → StepIs at s → RefusedAt number place → FaultAt (headerChecks s) s number × (place ≡ at)
+  fault-is : (number place : ℕ) → AnswerIs → RefusedAt number place → FaultAt checks s number × (place ≡ at)
   fault-is number place (ends z e) h = absurd (end-refused (h .0) (sym e ∙ h .1))
-  fault-is number place (stops r e p o k) h =
+  fault-is number place (stops r e p k) h =
       let same : Refused (h .0) ≡ Refused r = sym (h .1) ∙ e in
       let is : h .0 ≡ r = cc same in
-      (subst (FaultAt (headerChecks s) s) (sym (ap numberOf is) ∙ h .2) k, sym (h .3) ∙ ap placeOf is ∙ p)
+      (subst (FaultAt checks s) (sym (ap numberOf is) ∙ h .2) k, sym (h .3) ∙ ap placeOf is ∙ p)
   fault-is number place (goes-on z a e) h = absurd (record-refused _ _ _ (h .0) (sym e ∙ h .1))
 
-  is-fault : (number place : ℕ) → StepIs at s → FaultAt (headerChecks s) s number → place ≡ at → RefusedAt number place
-  is-fault number place (ends z e) f q = absurd (not-zeros (headerChecks s) s number f z)
-  is-fault number place (stops r e p o k) f q = (r, e, fault-one (headerChecks s) s (numberOf r) number k f, p ∙ sym q)
-  is-fault number place (goes-on z a e) f q = absurd (not-record (headerChecks s) s number z f a)
+  is-fault : (number place : ℕ) → AnswerIs → FaultAt checks s number → place ≡ at → RefusedAt number place
+  is-fault number place (ends z e) f q = absurd (not-zeros checks s number f z)
+  is-fault number place (stops r e p k) f q = (r, e, fault-one checks s (numberOf r) number k f, p ∙ sym q)
+  is-fault number place (goes-on z a e) f q = absurd (not-record checks s number z f a)
+
+  exactly : AnswerIs → StandsExactly answer checks at s
+  exactly is = record {
+    ends = (ended is, zeros-end is);
+    goes-on = λ lines count next. (passes lines count next is, is-record lines count next is);
+    refused = λ number place. (fault-is number place is, λ h. is-fault number place is (h .0) (h .1));
+  }
 
 -- what stands at a place names no line
 pub stepping-no-line : (at : ℕ) (s : List ℕ) (r : Refusal) → stepAt at s ≡ Refused r → NoLine r
 stepping-no-line at s r q = by-step (step-is at s)
   where
     by-step : StepIs at s → NoLine r
-    by-step (ends z e) = absurd (end-refused r (sym e ∙ q))
-    by-step (stops r′ e p o k) =
+    by-step (place.ends z e) = absurd (end-refused r (sym e ∙ q))
+    by-step (place.stops r′ e p o k) =
         let same : Refused r′ ≡ Refused r = sym e ∙ q in
         let is : r′ ≡ r = cc same in
         subst NoLine is o
-    by-step (goes-on z a e) = absurd (record-refused _ _ _ r (sym e ∙ q))
+    by-step (place.goes-on z a e) = absurd (record-refused _ _ _ r (sym e ∙ q))
 
 pub stepping-exactly : (at : ℕ) (s : List ℕ) → SteppingExactly at s
-stepping-exactly at s =
-    let is : StepIs at s = step-is at s in
-    record {
-      ends = (ended at s is, zeros-end at s is);
-      goes-on = λ lines count next. (record-is at s lines count next is, is-record at s lines count next is);
-      refused = λ number place. (fault-is at s number place is, λ h. is-fault at s number place is (h .0) (h .1));
-    }
+stepping-exactly at s = exactly (stepAt at s) (headerChecks s) at s (by-step (step-is at s))
+  where
+    by-step : StepIs at s → AnswerIs (stepAt at s) (headerChecks s) at s
+    by-step (place.ends z e) = ends z e
+    by-step (place.stops r e p o k) = stops r e p k
+    by-step (place.goes-on z a e) = goes-on z a e
+
+pub moving-exactly : (at last : ℕ) (s : List ℕ) → MovingExactly at last s
+moving-exactly at last s = exactly (recordAt at last s) (recordChecks last s) at s (by-record (record-is at last s))
+  where
+    by-record : RecordIs at last s → AnswerIs (recordAt at last s) (recordChecks last s) at s
+    by-record (nothing z e) = ends z (sym (late-end at last s e))
+    by-record (fault r e p l y) = stops r e p y
+    by-record (holds z a e g o) = goes-on z a (sym (late-record at last s _ (countOf s) (record { at = at + recordLength (countOf s); last = plotOf s }) e g o))

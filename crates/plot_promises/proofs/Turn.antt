@@ -12,13 +12,15 @@ use Rattle.lists.proofs.Test.{true-or-false, true-false, lt-or-ge}
 use Rattle.plot.specs.declared.Cursor.{Cursor}
 use Rattle.plot.specs.declared.Refusal.{Refusal}
 use Rattle.plot.specs.declared.Refusal.the-variants.{PlotOrder}
-use Rattle.plot.specs.declared.Step.the-variants.{Record}
+use Rattle.plot.specs.declared.Step.the-variants.{Record, End, Refused}
 use Rattle.plot.specs.Layout.{headerLength, plotOf, countOf, recordLength, noLine, linesCheck, linesHold}
 use Rattle.plot_promises.specs.Figures.{BadLineHere}
 use Rattle.plot_promises.specs.Checks.{Check, NoneFails, headerChecks, lateChecks, recordChecks, Zeros, FaultAt, RecordFault, inZeros, inRecord}
-use Rattle.plot.specs.Grammar.{badLine, stepAt, Plots, Stopped, onto, readFrom}
+use Rattle.plot.specs.Grammar.{badLine, stepAt, recordAt, Plots, Stopped, onto, readFrom}
 use Rattle.plot.specs.Numbers.{numberOf, placeOf}
-use Rattle.plot.proofs.Cases.{plotHere, read-end, read-refused, read-lines, read-order, read-on}
+use Rattle.plot.proofs.Cases.{plotHere, read-end, read-on}
+use Rattle.plot.proofs.Records.{late-refused, late-lines, late-order}
+use Rattle.plot.proofs.Records as records
 use Rattle.plot_promises.proofs.Lines.{lines-hold-iff}
 use Rattle.plot_promises.proofs.Checks.{first-one, not-both, first-before, first-after, all-after}
 use Rattle.plot_promises.proofs.Refusals.{Refuses, Tells, LineOf, in-line, in-none}
@@ -57,6 +59,53 @@ fault-more : (checks more : List Check) (s : List ℕ) (k : ℕ) → FaultAt che
 fault-more checks more s k (inZeros z h e) = inZeros z h e
 fault-more checks more s k (inRecord z h) = inRecord z (first-before checks more k h)
 
+-- what stands at a place, with every check of its record made
+module _ (at last : ℕ) (s : List ℕ) where
+  pub data RecordIs : Type 0 where
+    nothing : Zeros s → stepAt at s ≡ End → RecordIs
+    fault : (r : Refusal) → recordAt at last s ≡ Refused r → placeOf r ≡ at → LineOf (BadLineHere s) r → RecordFault last s (numberOf r) → RecordIs
+    holds : getD s 0 0 ≢ 0 → NoneFails (recordChecks last s) → stepAt at s ≡ recordHere at s → linesHold noLine (countOf s) (drop headerLength s) ≡ true → last < plotOf s → RecordIs
+
+  -- a record whose header holds
+  module _ (z : getD s 0 0 ≢ 0) (a : NoneFails (headerChecks s)) (e : stepAt at s ≡ recordHere at s) where
+    abbrev next : Cursor
+    next = record { at = at + recordLength (countOf s); last = plotOf s }
+
+    lines-fail : linesHold noLine (countOf s) (drop headerLength s) ≡ false → RecordIs
+    lines-fail g =
+        let b = not-hold-first (drop headerLength s) (countOf s) g in
+        fault (badLine at (linesCheck noLine 0 (countOf s) (drop headerLength s))) (sym (late-lines at last s _ (countOf s) next e g)) refl
+        (in-line refl (a, b))
+        (inRecord z (first-after (headerChecks s) (lateChecks last s) 7 a (inl ((λ k. true-false (lines-hold-iff _ _ .1 k) g), refl))))
+
+    module _ (g : linesHold noLine (countOf s) (drop headerLength s) ≡ true) where
+      rise-fails : plotOf s ≤ last → RecordIs
+      rise-fails o =
+          fault (PlotOrder at) (sym (late-order at last s _ (countOf s) next e g o)) refl
+          (in-none (refl, refl) (λ j i x. hold-no-first (drop headerLength s) (countOf s) (lines-hold-iff _ _ .0 g) j i (x .1)))
+          (inRecord z (first-after (headerChecks s) (lateChecks last s) 8 a (inr (lines-hold-iff _ _ .0 g, inl ((λ k. omega arith), refl)))))
+
+      rises-on : last < plotOf s → RecordIs
+      rises-on o = holds z (all-after (headerChecks s) (lateChecks last s) a (lines-hold-iff _ _ .0 g, (o, tt))) e g o
+
+    record-here : RecordIs
+    record-here =
+        ⊎-elim
+        (λ g. ⊎-elim (rises-on g) (rise-fails g) (lt-or-ge last (plotOf s)))
+        lines-fail
+        (true-or-false (linesHold noLine (countOf s) (drop headerLength s)))
+
+  record-step : StepIs at s → RecordIs
+  record-step (place.ends z e) = nothing z e
+  record-step (place.stops r e p o k) =
+      fault r (sym (late-refused at last s r e)) p (in-none o (λ j i x. not-record (headerChecks s) s (numberOf r) (header-some s (x .0)) k (x .0)))
+      (fault-more (headerChecks s) (lateChecks last s) s (numberOf r) k)
+  record-step (place.goes-on z a e) = record-here z a e
+
+  pub record-is : RecordIs
+  record-is = record-step (step-is at s)
+
+-- a turn of the reading goes by it
 module _ (f at last : ℕ) (s : List ℕ) where
   pub data TurnIs : Type 0 where
     ends : Zeros s → readFrom (suc f) at last s ≡ Plots [] at → TurnIs
@@ -65,49 +114,18 @@ module _ (f at last : ℕ) (s : List ℕ) where
         → NoneFails (recordChecks last s)
         → readFrom (suc f) at last s ≡ onto (plotHere at last s from count next e) (readFrom f (next .at) (next .last) (drop (recordLength count) s)) → TurnIs
 
-  -- a record whose header holds
-  module _ (z : getD s 0 0 ≢ 0) (a : NoneFails (headerChecks s)) (e : stepAt at s ≡ recordHere at s) where
-    abbrev next : Cursor
-    next = record { at = at + recordLength (countOf s); last = plotOf s }
-
-    lines-fail : linesHold noLine (countOf s) (drop headerLength s) ≡ false → TurnIs
-    lines-fail g =
-        let b = not-hold-first (drop headerLength s) (countOf s) g in
-        stops (badLine at (linesCheck noLine 0 (countOf s) (drop headerLength s))) (read-lines at last s _ (countOf s) next e (suc f) (suc-le-suc zero-le) g) refl
-        (in-line refl (a, b))
-        (inRecord z (first-after (headerChecks s) (lateChecks last s) 7 a (inl ((λ k. true-false (lines-hold-iff _ _ .1 k) g), refl))))
-
-    module _ (g : linesHold noLine (countOf s) (drop headerLength s) ≡ true) where
-      rise-fails : plotOf s ≤ last → TurnIs
-      rise-fails o =
-          stops (PlotOrder at) (read-order at last s _ (countOf s) next e g (suc f) (suc-le-suc zero-le) o) refl
-          (in-none (refl, refl) (λ j i x. hold-no-first (drop headerLength s) (countOf s) (lines-hold-iff _ _ .0 g) j i (x .1)))
-          (inRecord z (first-after (headerChecks s) (lateChecks last s) 8 a (inr (lines-hold-iff _ _ .0 g, inl ((λ k. omega arith), refl)))))
-
-      rises-on : last < plotOf s → TurnIs
-      rises-on o =
-          let y : suc f - 1 ≡ f = omega arith in
-          let rest = drop (recordLength (countOf s)) s in
-          goes-on z _ (countOf s) next e g o (all-after (headerChecks s) (lateChecks last s) a (lines-hold-iff _ _ .0 g, (o, tt)))
-          (read-on at last s _ (countOf s) next e g (suc f) (suc-le-suc zero-le) o
-          ∙ ap (λ (n : ℕ). onto (plotHere at last s _ (countOf s) next e) (readFrom n (next .at) (next .last) rest)) y)
-
-    turn-record : TurnIs
-    turn-record =
-        ⊎-elim
-        (λ g. ⊎-elim (rises-on g) (rise-fails g) (lt-or-ge last (plotOf s)))
-        lines-fail
-        (true-or-false (linesHold noLine (countOf s) (drop headerLength s)))
-
-  turn-step : length s ≤ suc f → StepIs at s → TurnIs
-  turn-step h (place.ends z e) = ends z (read-end at last s (suc f) e)
-  turn-step h (place.stops r e p o k) =
-      stops r (read-refused at last s (suc f) r h e) p (in-none o (λ j i x. not-record (headerChecks s) s (numberOf r) (header-some s (x .0)) k (x .0)))
-      (fault-more (headerChecks s) (lateChecks last s) s (numberOf r) k)
-  turn-step h (place.goes-on z a e) = turn-record z a e
+  turn-record : length s ≤ suc f → RecordIs at last s → TurnIs
+  turn-record h (nothing z e) = ends z (read-end at last s (suc f) e)
+  turn-record h (fault r e p l y) = stops r (records.stops at last s r (suc f) h e) p l y
+  turn-record h (holds z a e g o) =
+      let y : suc f - 1 ≡ f = omega arith in
+      let after : Cursor = record { at = at + recordLength (countOf s); last = plotOf s } in
+      goes-on z _ (countOf s) after e g o a
+      (read-on at last s _ (countOf s) after e g (suc f) (suc-le-suc zero-le) o
+      ∙ ap (λ (n : ℕ). onto (plotHere at last s _ (countOf s) after e) (readFrom n (after .at) (after .last) (drop (recordLength (countOf s)) s))) y)
 
   pub turn-is : length s ≤ suc f → TurnIs
-  turn-is h = turn-step h (step-is at s)
+  turn-is h = turn-record h (record-is at last s)
 
 -- so the reading stops by it
 pub fault-reads : (f at last : ℕ) (s : List ℕ) (k : ℕ) → length s ≤ f → RecordFault last s k → (r : Refusal) × (readFrom f at last s ≡ Stopped r) × Refuses at r k

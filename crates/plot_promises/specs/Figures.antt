@@ -11,9 +11,9 @@ use Rattle.plot.specs.declared.Line.{Line}
 use Rattle.plot.specs.declared.Refusal.{Refusal}
 use Rattle.plot.specs.declared.Step.the-variants.{Refused}
 use Rattle.plot.specs.Layout.{Plot, headerLength, countOf, lineCheck, figureNumber, linesOf}
-use Rattle.plot.specs.Grammar.{stepAt}
+use Rattle.plot.specs.Grammar.{stepAt, recordAt}
 use Rattle.plot.specs.Answers.{checked, located, added}
-use Rattle.plot.specs.Numbers.{figureOf, indexOf, payloadNumber, payloadPlace, payloadFigure, payloadIndex, locatedNumber, locatedPlace, locatedFigure, locatedIndex, addedNumber, addedPlace, addedFigure, addedIndex}
+use Rattle.plot.specs.Numbers.{numberOf, placeOf, figureOf, indexOf, payloadNumber, payloadPlace, payloadFigure, payloadIndex, locatedNumber, locatedPlace, locatedFigure, locatedIndex, addedNumber, addedPlace, addedFigure, addedIndex}
 use Rattle.plot_promises.specs.Lines.{lineAt, SpeciesInRange, ClassInRange, CountInRange, Above}
 use Rattle.plot_promises.specs.Checks.{Check, _unless_, FirstFails, NoneFails, headerChecks, lentChecks}
 use Rattle.plot_promises.specs.Canonical.{Contains}
@@ -76,9 +76,10 @@ pub record FigureExactly (Bad : ℕ → ℕ → ℕ → Type 0) (number place fi
   pub inside : (at f i : ℕ) → f ≢ 0 → ((number ≡ 7) × (place ≡ at) × (figure ≡ f) × (index ≡ i)) ↔ Bad at f i
   pub outside : ((figure ≡ 0) × (index ≡ 0)) ↔ ((at f i : ℕ) → Bad at f i → ⊥)
 
--- N2b, of each entry: what stands at a place, before its lines are checked; the check of a payload; the companion of asking; adding
+-- N2b, of each entry: what stands at a place, before its lines are checked and with every check made; the check of a payload; the companion of asking; adding
 pub record Figures : Type 0 where
   pub stepping : (at : ℕ) (s : List ℕ) (r : Refusal) → stepAt at s ≡ Refused r → (figureOf r ≡ 0) × (indexOf r ≡ 0)
+  pub moving : (at last : ℕ) (s : List ℕ) (r : Refusal) → recordAt at last s ≡ Refused r → FigureExactly (λ (place figure index : ℕ). (place ≡ at) × BadLineHere s figure index) (numberOf r) (placeOf r) (figureOf r) (indexOf r)
   pub checking : (s : List ℕ) → Bytes s
       → FigureExactly (BadLineAt s) (payloadNumber (checked s)) (payloadPlace (checked s)) (payloadFigure (checked s)) (payloadIndex (checked s))
   pub asking : (n : ℕ) (s : List ℕ) → Bytes s

@@ -8,11 +8,12 @@ use Prim.Native.Nat.{ℕ, _+_, _<_, _≤_}
 use lib.ListN.{length, getD}
 use Rattle.plot.specs.declared.Cursor.{Cursor}
 use Rattle.plot.specs.declared.Refusal.{Refusal}
+use Rattle.plot.specs.declared.Step.{Step}
 use Rattle.plot.specs.declared.Step.the-variants.{Record, End, Refused}
 use Rattle.plot.specs.declared.Checked.the-variants.{Accepted}
 use Rattle.plot.specs.Layout.{Plot, plotOf, countOf, recordLength, recordOf, bytesOf}
-use Rattle.plot.specs.Grammar.{stepAt}
-use Rattle.plot_promises.specs.Checks.{FirstFails, NoneFails, headerChecks, Zeros, FaultAt, RecordFault, addChecks}
+use Rattle.plot.specs.Grammar.{stepAt, recordAt}
+use Rattle.plot_promises.specs.Checks.{Check, FirstFails, NoneFails, headerChecks, recordChecks, Zeros, FaultAt, RecordFault, addChecks}
 use Rattle.plot.specs.Answers.{lastNumber, checked, located, asked, added, payloadWith}
 use Rattle.plot.specs.Numbers.{numberOf, placeOf, payloadNumber, payloadPlace, payloadEnd, locatedNumber, locatedPlace, locatedStart, locatedLength, addedNumber, addedPlace, addedStart}
 use Rattle.plot_promises.specs.Canonical.{Rising, Contains, FoundAt}
@@ -21,14 +22,23 @@ use Rattle.plot_promises.specs.Canonical.{Rising, Contains, FoundAt}
 abbrev pub endOf : List Plot → ℕ
 endOf plots = length (bytesOf plots)
 
--- what stands at the place `at`, the payload from there on being s: "A place in the payload moves on one record at a time."
-pub record SteppingExactly (at : ℕ) (s : List ℕ) : Type 0 where
-  pub ends : (stepAt at s ≡ End) ↔ Zeros s
-  -- a record whose checks before the lines hold: where its lines begin, how many they are, and the cursor after it
-  pub goes-on : (lines count : ℕ) (next : Cursor) → (stepAt at s ≡ Record lines count next)
-      ↔ ((getD s 0 0 ≢ 0) × NoneFails (headerChecks s) × (lines ≡ at + 5) × (count ≡ countOf s) × (next .at ≡ at + recordLength (countOf s)) × (next .last ≡ plotOf s))
+-- an answer to what stands at the place `at`, the payload from there on being s, where a record there has to pass these checks: "A place in the payload moves on one record
+-- at a time."
+pub record StandsExactly (answer : Step) (checks : List Check) (at : ℕ) (s : List ℕ) : Type 0 where
+  pub ends : (answer ≡ End) ↔ Zeros s
+  -- a record that passes them: where its lines begin, how many they are, and the cursor after it
+  pub goes-on : (lines count : ℕ) (next : Cursor) → (answer ≡ Record lines count next)
+      ↔ ((getD s 0 0 ≢ 0) × NoneFails checks × (lines ≡ at + 5) × (count ≡ countOf s) × (next .at ≡ at + recordLength (countOf s)) × (next .last ≡ plotOf s))
   pub refused : (number place : ℕ)
-      → ((r : Refusal) × (stepAt at s ≡ Refused r) × (numberOf r ≡ number) × (placeOf r ≡ place)) ↔ (FaultAt (headerChecks s) s number × (place ≡ at))
+      → ((r : Refusal) × (answer ≡ Refused r) × (numberOf r ≡ number) × (placeOf r ≡ place)) ↔ (FaultAt checks s number × (place ≡ at))
+
+-- with the checks before the lines
+abbrev pub SteppingExactly : ℕ → List ℕ → Type 0
+SteppingExactly at s = StandsExactly (stepAt at s) (headerChecks s) at s
+
+-- with every check of the record, after a plot of the number `last`
+abbrev pub MovingExactly : ℕ → ℕ → List ℕ → Type 0
+MovingExactly at last s = StandsExactly (recordAt at last s) (recordChecks last s) at s
 
 -- the records of plots that hold and rise, then, at `place`, bytes of which `Here` is true; it is told the last plot's number, 0 if there is none, and these bytes
 pub record AfterPlots (Here : ℕ → List ℕ → Type 0) (s : List ℕ) (place : ℕ) : Type 0 where

@@ -1,10 +1,12 @@
 -- The checks before the lines, then the lines as a part of the payload, then the rise.
 use Prim.Native.Nat.{ℕ, _+_, _*_}
 use native.Mathlib.Omega.{arith}
-use mathlib.Core.Path.{_≡_, refl, sym, _∙_}
+use mathlib.Core.Path.{_≡_, refl, sym, ap, _∙_}
 use lib.ListN.{drop}
-use Rattle.plot.specs.declared.Step.the-variants.{Record}
-use Rattle.plot.specs.Grammar.{stepAt}
+use Rattle.plot.specs.declared.LinesCheck.{LinesCheck}
+use Rattle.plot.specs.declared.Step.the-variants.{Record, Refused}
+use Rattle.plot.specs.Grammar.{badLine, stepAt}
+use Rattle.plot.proofs.Lines.{not-held, all-held}
 use Rattle.plot.proofs.Cases.{Bounds, bounds}
 use Rattle.plot.proofs.Records.{found-here, late-end, late-refused, late-lines, late-order, late-record}
 use borrow.Author.Needs.{needs}
@@ -52,14 +54,15 @@ returns c =
     let d = c .before .before .before .before in
     let a = d .before .before .before .before .before .args in
     let f = found-here (a .payload .now) (a .self .at) (a .self .last) _ _ _ (step-is d) _ _ refl (c .before .before .check-lines .ensures) in
-    late-lines _ _ _ _ _ _ (step-is d) _ f (λ z. c .if1 .taken (c .before .figure .ensures ∙ z))
+    ap (λ (found : LinesCheck). Refused (badLine (a .self .at) found)) (sym f)
+    ∙ late-lines _ _ _ _ _ _ (step-is d) (not-held _ _ _ _ f (λ z. c .if1 .taken (c .before .figure .ensures ∙ z)))
 
 returns-2 : tie.Need-returns-2
 returns-2 c =
     let d = c .before .before .before .before .before .before .before in
     let a = d .before .before .before .before .before .args in
     let f = found-here (a .payload .now) (a .self .at) (a .self .last) _ _ _ (step-is d) _ _ refl (c .before .before .before .before .before .check-lines .ensures) in
-    late-order _ _ _ _ _ _ (step-is d) _ f (sym (c .before .before .before .before .figure .ensures) ∙ c .before .before .before .if1 .left) (c .if2 .taken)
+    late-order _ _ _ _ _ _ (step-is d) (all-held _ _ _ _ f (sym (c .before .before .before .before .figure .ensures) ∙ c .before .before .before .if1 .left)) (c .if2 .taken)
 
 enum-told : tie.Need-enum-told
 enum-told c = search needs
@@ -72,7 +75,7 @@ returns-3 c =
     let d = c .before .before .before .before .before .before .before in
     let a = d .before .before .before .before .before .args in
     let f = found-here (a .payload .now) (a .self .at) (a .self .last) _ _ _ (step-is d) _ _ refl (c .before .before .before .before .before .check-lines .ensures) in
-    late-record _ _ _ _ _ _ (step-is d) _ f (sym (c .before .before .before .before .figure .ensures) ∙ c .before .before .before .if1 .left) (c .if2 .left)
+    late-record _ _ _ _ _ _ (step-is d) (all-held _ _ _ _ f (sym (c .before .before .before .before .figure .ensures) ∙ c .before .before .before .if1 .left)) (c .if2 .left)
 
 returns-4 : tie.Need-returns-4
 returns-4 c = late-end _ _ _ (sym (c .before .before .next .ensures) ∙ c .enum-told .given .1)
