@@ -1,4 +1,4 @@
-// The cells of a table: the trees of an accepted payload counted into them, record by record and line by line, their limit, and their sum. No sum overflows,
+// The cells of a table: the trees of a payload counted into them, record by record and line by line, their limit, and their sum. No sum overflows,
 // since a cell begins at the limit at most and each three bytes of the payload add 255 trees at most.
 use crate::MOST;
 use plot::Checked;

@@ -1,5 +1,6 @@
 // The stand table of a tract (document 02, Note 4): begun from a species list, added to by payloads one after another, totalled, and divided by the number of
-// records. Each answer and each table is an equation with specs/Answers.antt; the table is counted by one pass over the records of an accepted payload.
+// records. Each answer and each table is an equation with specs/Answers.antt. A payload is counted into a copy of the table in one pass, each record as soon as it is
+// checked, and the copy becomes the table once the whole payload is accepted.
 mod count;
 mod list;
 mod numbers;
@@ -149,31 +150,31 @@ fn with_records(tract: Tract, records: u32) -> Tract
     }
 }
 
-/// Adds a payload: the trees of its records go into the table. After a refusal table and tract are as they were.
+/// Adds a payload: the trees of its records go into the table. A refused payload writes nothing, and the tract is as it was.
 pub fn add(table: &mut [[u32; 20]; 17], tract: Tract, payload: &[u8]) -> Outcome
     ensures { λ r. ⌜ r ≡ record { answer = addAnswer (now (table .entry)) tract (now (payload .entry)); tract = addTract (now (table .entry)) tract (now (payload .entry)) } ⌝ }
     ensures { λ _. ⌜ now (table .exit) ≡ addTable (now (table .entry)) tract (now (payload .entry)) ⌝ }
 {
-    let kept = *table;
-    let answer = judge(kept, tract, payload.len());
+    let mut counts = *table;
+    let answer = judge(counts, tract, payload.len());
     let Answer::Accepted = answer else {
         return Outcome { answer, tract };
     };
     let rows = rows_of(tract);
-    let counted = count_records(table, &rows, payload);
+    let counted = count_records(&mut counts, &rows, payload);
     let checked = counted.checked;
     match checked {
-        Checked::Accepted(_) => Outcome {
-            answer,
-            tract: with_records(tract, counted.records),
-        },
-        Checked::Refused(r) => {
-            *table = kept;
+        Checked::Accepted(_) => {
+            *table = counts;
             Outcome {
-                answer: Answer::Refused(TableRefusal::Payload(r)),
-                tract,
+                answer,
+                tract: with_records(tract, counted.records),
             }
         }
+        Checked::Refused(r) => Outcome {
+            answer: Answer::Refused(TableRefusal::Payload(r)),
+            tract,
+        },
     }
 }
 

@@ -1,16 +1,16 @@
 -- How much an accepted payload can add: a cell grows by at most 85 for each byte of its records, and each record has five bytes or more. So no sum of 32 bits overflows, and a table
--- begun empty stays under the limit.
+-- begun empty stays under the limit. And how much all cells within the limit are together, which 64 bits hold.
 use mathlib.Core.Path.{_≡_}
 use mathlib.Core.List.{List, [], _∷_}
-use Prim.Native.Nat.{ℕ, _+_, _*_, _≤_}
+use Prim.Native.Nat.{ℕ, suc, _+_, _*_, _<_, _≤_}
 use native.Mathlib.Omega.{arith}
-use lib.ListN.{length, length-append}
+use lib.ListN.{length, getD, length-append}
 use Rattle.plot.specs.Layout.{Plot, linesOf, recordOf, bytesOf, talliesOf}
 use Rattle.plot.specs.Grammar.{Plots, reading}
 use Rattle.plot.proofs.Entries.{reading-reads}
 use Rattle.plot_promises.specs.Canonical.{Rising}
 use Rattle.plot_promises.proofs.Sound.{reading-sound}
-use Rattle.stand.specs.Table.{plusLines, plusPlots}
+use Rattle.stand.specs.Table.{cellOf, plusLines, plusPlots, most, rowTotal, tableTotal}
 use Rattle.stand.specs.Bounds.{AtMost}
 use Rattle.stand.proofs.Cells.{at-most-up, lines-most}
 
@@ -30,3 +30,19 @@ payload-most rows s ps end q m t a =
     let n : length s ≤ 4048 = reading-reads s ps end q .0 in
     let k : length (bytesOf ps) ≤ length s = reading-sound s ps end q .fits in
     at-most-up (m + length (bytesOf ps) * 85) (m + 344080) (plusPlots rows ps t) (omega arith) (plots-most rows ps 0 (reading-sound s ps end q .rising) m t a)
+
+-- all cells of a row, and of a table with rows of twenty
+row-most : (row : List ℕ) → ((j : ℕ) → getD row j 0 ≤ most) → rowTotal row ≤ length row * most
+unfolding rowTotal
+row-most [] h = omega arith
+row-most (x ∷ row) h =
+    let a : x ≤ most = h 0 in
+    omega (arith, a, row-most row (λ j. h (suc j)))
+
+pub total-most : (t : List (List ℕ)) → ((i : ℕ) → i < length t → length (getD t i []) ≡ 20) → AtMost most t → tableTotal t ≤ length t * (20 * most)
+unfolding tableTotal
+total-most [] s a = omega arith
+total-most (row ∷ t) s a =
+    let n : length row ≡ 20 = s 0 (omega arith) in
+    let r : rowTotal row ≤ 20 * most = rw n at (row-most row (a 0)) in
+    omega (arith, r, total-most t (λ i h. s (suc i) (omega arith)) (λ i. a (suc i)))

@@ -4,7 +4,7 @@ use mathlib.Core.Path.{_≡_, refl, sym, ap, subst, _∙_}
 use mathlib.Core.Logic.{_⊎_, _↔_, _≢_, inl, inr, ⊎-elim}
 use mathlib.Core.Bool.{Bool, true, false}
 use mathlib.Core.List.{List, [], _∷_, _++_}
-use Prim.Native.Nat.{ℕ, _+_, _/_, _%_, _<_, _≤_}
+use Prim.Native.Nat.{ℕ, _+_, _*_, _/_, _%_, _<_, _≤_}
 use native.Mathlib.Omega.{arith}
 use native.Mathlib.Nat.{div-add-mod', mod-lt}
 use lib.ListN.{length, take, drop, replicate}
@@ -40,7 +40,7 @@ use Rattle.stand_promises.specs.Trees.{linesIn}
 use Rattle.stand_promises.specs.Exactly.{Shape, Limits, stateChecks, addingChecks, perPlotChecks, BeginningExactly, AddingPayload, TotalExactly, PerPlotExactly}
 use Rattle.stand_promises.proofs.Species.{species-iff, tract-iff}
 use Rattle.stand_promises.proofs.Trees.{Does, does-plots}
-use Rattle.stand_promises.proofs.Bounds.{payload-most}
+use Rattle.stand_promises.proofs.Bounds.{payload-most, total-most}
 
 -- ---- beginning
 
@@ -278,7 +278,16 @@ module _ (t : List (List ℕ)) (tract : Tract) where
   total-exactly =
       let e = exactly (stateChecks t tract) (totalNumber sum) total-some (⊎-elim (λ f. inl (f .0, f .1, ap totalNumber (f .2 .1) ∙ f .2 .2)) (λ f. inr (f .0, ap totalNumber (f .1))) total-is) in
       let u = trees-of sum (⊎-elim (λ f. inr (f .2 .0, f .2 .1)) (λ f. inl (f .1)) total-is) in
-      record { refused = e .0; accepted = e .1; sum = u .0; unset = u .1 }
+      record {
+        refused = e .0;
+        accepted = e .1;
+        sum = u .0;
+        unset = u .1;
+        fits = λ h z.
+            let m : tableTotal t ≤ length t * 8000000000 = total-most t (λ i k. h .columns i (omega (arith, h .rows))) (e .1 .0 z .1 .0 .cells) in
+            let n : length t ≡ 17 = h .rows in
+            omega (arith, u .0 z);
+      }
 
   -- trees per plot, by the total and the number of records
   abbrev last : List Check

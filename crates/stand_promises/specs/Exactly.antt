@@ -80,6 +80,8 @@ pub record TotalExactly (t : List (List ℕ)) (tract : Tract) : Type 0 where
   pub accepted : (totalNumber (totalAnswer t tract) ≡ 0) ↔ NoneFails (stateChecks t tract)
   pub sum : totalNumber (totalAnswer t tract) ≡ 0 → totalTrees (totalAnswer t tract) ≡ tableTotal t
   pub unset : totalNumber (totalAnswer t tract) ≢ 0 → totalTrees (totalAnswer t tract) ≡ 0
+  -- no sum overflows: the total has 64 bits
+  pub fits : Shape t → totalNumber (totalAnswer t tract) ≡ 0 → totalTrees (totalAnswer t tract) < 2 ^ 64
 
 -- "Trees per plot, the table's total over the number of records added, come as a whole quotient and the exact remainder."
 pub record PerPlotExactly (t : List (List ℕ)) (tract : Tract) : Type 0 where

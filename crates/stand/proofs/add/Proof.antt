@@ -1,4 +1,4 @@
--- A state that is refused is left. Else the records are counted as they are checked: where all are accepted that is the new table, and where one is refused the table is put back.
+-- A state that is refused is left. Else the records are counted into a copy of the table as they are checked: where all are accepted the copy is the new table, and where one is refused the table was not written.
 use Prim.Native.Nat.{ℕ, _≤_}
 use native.Mathlib.Omega.{arith}
 use mathlib.Core.Path.{_≡_, sym, ap, ap₂, subst, _∙_}
