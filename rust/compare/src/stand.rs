@@ -2,9 +2,15 @@
 
 use crate::plot::Answer;
 use crate::Refused;
+use second::plot::record;
 use second::stand::{Stand, State};
 use tishwabe::ffi::table;
 use tishwabe::StandTable;
+
+/// A payload of one plot with one line.
+pub fn one_line(species: u8, class: u8, count: u8) -> Vec<u8> {
+    record(7, &[species, class, count])
+}
 
 /// The library's state of the same numbers.
 fn library_state(state: &State) -> table::State {

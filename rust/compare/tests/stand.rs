@@ -2,17 +2,12 @@
 
 use compare::draw::{self, MOST};
 use compare::plot::Answer;
-use compare::stand::{add, begin, total, trees_per_plot};
+use compare::stand::{add, begin, one_line, total, trees_per_plot};
 use compare::work::{called, run, Tally};
 use second::plot::record;
 use second::random::Random;
 use second::stand::{Stand, State, ROWS};
 use second::{cases, plot};
-
-/// A payload of one plot with one line.
-fn one_line(species: u8, class: u8, count: u8) -> Vec<u8> {
-    record(7, &[species, class, count])
-}
 
 /// Every species and every class, with the species listed anywhere and not listed: its cell alone has the trees.
 #[test]

@@ -1,16 +1,11 @@
 //! Refusals of the stand table, by the library and by the second decoder: lists, states handed in, and several faults at once.
 
 use compare::draw::{self, MOST};
-use compare::stand::{add, begin, numbers};
+use compare::stand::{add, begin, numbers, one_line};
 use compare::work::{called, run, Tally};
 use second::plot::record;
 use second::random::Random;
 use second::stand::{State, COLUMNS};
-
-/// A payload of one plot with one line.
-fn one_line(species: u8, class: u8, count: u8) -> Vec<u8> {
-    record(7, &[species, class, count])
-}
 
 /// A payload for each of the payload's own refusals, 5 to 8.
 fn bad_payloads() -> [(usize, Vec<u8>); 4] {

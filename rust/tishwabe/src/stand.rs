@@ -222,7 +222,7 @@ impl StandTable {
     /// assert_eq!(StandTable::column_range(20), None);
     /// ```
     pub fn column_range(column: usize) -> Option<RangeInclusive<u8>> {
-        let first = u8::try_from(column).ok().filter(|&column| column < 20)? * 10 + 1;
+        let first = u8::try_from(column).ok().filter(|_| column < StandTable::COLUMNS)? * 10 + 1;
         Some(first..=first + 9)
     }
 }

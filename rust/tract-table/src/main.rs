@@ -37,17 +37,17 @@ fn main() -> ExitCode {
 fn run(arguments: impl Iterator<Item = OsString>) -> Result<(), Failure> {
     match arguments::parse(arguments).map_err(Failure::Arguments)? {
         Request::Help => print(&arguments::help()),
-        Request::Table { species, mode, sheets } => table(species, mode, sheets),
+        Request::Table { species, sheets } => table(species, sheets),
     }
 }
 
 /// Prints the table. It is printed too where a sheet is left out, which is a failure all the same.
-fn table(species: Option<Vec<u8>>, mode: Mode, sheets: Vec<PathBuf>) -> Result<(), Failure> {
+fn table(species: Option<Vec<u8>>, sheets: Vec<(PathBuf, Mode)>) -> Result<(), Failure> {
     if let Some(list) = &species {
         StandTable::new(list).map_err(|error| Failure::Arguments(error.to_string()))?;
     }
     let work = |error: tishwabe::Error| Failure::Work(error.to_string());
-    let tract = Tract::of(sheets, mode, species).map_err(work)?;
+    let tract = Tract::of(sheets, species).map_err(work)?;
     print(&report::text(&tract).map_err(work)?)?;
     report::left_out(&tract).map_or(Ok(()), |message| Err(Failure::Work(message)))
 }

@@ -62,9 +62,9 @@ impl Reading {
 }
 
 impl Tract {
-    /// The sheets in these files, read in this mode, and added in turn to a table of these species, or of those found.
-    pub fn of(files: Vec<PathBuf>, mode: Mode, species: Option<Vec<u8>>) -> Result<Tract, Error> {
-        let readings: Vec<Result<Reading, String>> = files.iter().map(|path| Reading::of(path, mode)).collect();
+    /// The sheets in these files, each read in its mode, and added in turn to a table of these species, or of those found.
+    pub fn of(files: Vec<(PathBuf, Mode)>, species: Option<Vec<u8>>) -> Result<Tract, Error> {
+        let readings: Vec<_> = files.iter().map(|(path, mode)| Reading::of(path, *mode)).collect();
         let (species, found) = match species {
             Some(species) => (species, None),
             None => {
@@ -75,7 +75,7 @@ impl Tract {
         let mut table = StandTable::new(&species)?;
         let mut add = |reading: Reading| reading.add_to(&mut table).map_err(|error| error.to_string());
         let outcomes: Vec<Result<Added, String>> = readings.into_iter().map(|reading| add(reading?)).collect();
-        let sheets = files.into_iter().zip(outcomes).collect();
+        let sheets = files.into_iter().map(|(path, _)| path).zip(outcomes).collect();
         Ok(Tract { table, sheets, found })
     }
 

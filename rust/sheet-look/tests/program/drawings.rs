@@ -4,7 +4,7 @@ use std::collections::BTreeSet;
 use std::fs;
 
 use crate::expected;
-use crate::run::{example, folder, names, run, table_and_drawing};
+use crate::run::{example, folder, names, table_and_drawing, PROGRAM};
 use crate::xml::{elements, Element};
 
 /// A block and one of its cells.
@@ -160,18 +160,17 @@ fn texts_fit() {
 /// A drawing is overwritten, and so is an empty file; any other file, the sheet itself included, is left as it is.
 #[test]
 fn other_files() {
-    let folder = folder("other_files");
     let sheet = example("scratched");
-    fs::write(folder.join("a.sheet"), &sheet).expect("a file for the test");
+    let folder = folder("other_files", &sheet);
     fs::write(folder.join("empty.svg"), "").expect("a file for the test");
     fs::write(folder.join("old.svg"), "<svg/>\n".repeat(9_000)).expect("a file for the test");
     fs::write(folder.join("notes"), "<sv").expect("a file for the test");
     for out in ["empty.svg", "old.svg"] {
-        assert_eq!(run(&folder, &["a.sheet", "--svg", out]).status, 0);
+        assert_eq!(PROGRAM.run(&folder, &["a.sheet", "--svg", out]).status, 0);
         elements(&fs::read_to_string(folder.join(out)).expect("the drawing is there"));
     }
     for out in ["a.sheet", "notes"] {
-        let ended = run(&folder, &["a.sheet", "--svg", out]);
+        let ended = PROGRAM.run(&folder, &["a.sheet", "--svg", out]);
         let message =
             format!("sheet-look: {out}: the file is there and does not begin with <svg, so it is left as it is\n");
         assert_eq!((ended.status, ended.out.as_str(), ended.err), (1, "", message));

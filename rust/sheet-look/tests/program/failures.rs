@@ -1,18 +1,16 @@
 //! What is no sheet, arguments that are wrong, and output that nobody takes.
 
-use std::fs::{self, File};
-use std::process::Stdio;
+use program_runs::Ended;
 
 use crate::expected;
-use crate::run::{ended, example, folder, names, program, run, Ended};
+use crate::run::{example, folder, names, PROGRAM};
 
 const USAGE: &str = "usage: sheet-look FILE [--svg OUT]\n";
 
 /// The message for these bytes. Nothing is printed, and no drawing is made.
 fn message(bytes: &[u8]) -> String {
-    let folder = folder("message");
-    fs::write(folder.join("a.sheet"), bytes).expect("a file for the test");
-    let Ended { status, out, err } = run(&folder, &["a.sheet", "--svg", "out.svg"]);
+    let folder = folder("message", bytes);
+    let Ended { status, out, err } = PROGRAM.run(&folder, &["a.sheet", "--svg", "out.svg"]);
     assert_eq!((status, out.as_str()), (1, ""));
     assert_eq!(names(&folder), ["a.sheet"]);
     let message = err
@@ -49,20 +47,19 @@ fn bad_files() {
 
 #[test]
 fn files_that_cannot_be_read_or_written() {
-    let folder = folder("files");
-    fs::write(folder.join("a.sheet"), example("written")).expect("a file for the test");
+    let folder = folder("files", &example("written"));
     let absent = std::io::Error::from_raw_os_error(2).to_string();
     for (arguments, name) in [
         (&["b.sheet"][..], "b.sheet"),
         (&["a.sheet", "--svg", "b/out.svg"], "b/out.svg"),
     ] {
-        let Ended { status, out, err } = run(&folder, arguments);
+        let Ended { status, out, err } = PROGRAM.run(&folder, arguments);
         assert_eq!(
             (status, out.as_str(), err),
             (1, "", format!("sheet-look: {name}: {absent}\n"))
         );
     }
-    let Ended { status, out, err } = run(&folder, &["."]);
+    let Ended { status, out, err } = PROGRAM.run(&folder, &["."]);
     assert_eq!((status, out.as_str()), (1, ""));
     assert!(err.starts_with("sheet-look: .: ") && err.lines().count() == 1, "{err}");
     assert_eq!(names(&folder), ["a.sheet"]);
@@ -70,68 +67,22 @@ fn files_that_cannot_be_read_or_written() {
 
 #[test]
 fn wrong_arguments() {
-    let folder = folder("arguments");
-    for (arguments, message) in [
+    let cases = [
         (&[][..], "FILE is missing"),
         (&["a.sheet", "--fill"], "unknown argument --fill"),
         (&["a.sheet", "b.sheet"], "FILE is given twice"),
         (&["a.sheet", "--svg"], "--svg needs the name of a file"),
-    ] {
-        let err = format!("sheet-look: {message}\n{USAGE}");
-        assert_eq!(
-            run(&folder, arguments),
-            Ended {
-                status: 2,
-                out: String::new(),
-                err
-            }
-        );
-    }
-    assert!(names(&folder).is_empty());
+    ];
+    PROGRAM.wrong_arguments(USAGE, &cases);
 }
 
 #[test]
 fn help() {
-    let folder = folder("help");
-    let Ended { status, out, err } = run(&folder, &["--help"]);
-    assert_eq!((status, err.as_str()), (0, ""));
-    assert!(
-        out.starts_with(USAGE) && out.contains("The status is 0 if the sheet could be looked at"),
-        "{out}"
-    );
-    assert_eq!(run(&folder, &["-h"]).out, out);
+    let out = PROGRAM.help(USAGE);
+    assert!(out.contains("The status is 0 if the sheet could be looked at"), "{out}");
 }
 
-/// A pipe that is closed at its other end, and a device with no space.
 #[test]
 fn output_that_nobody_takes() {
-    let folder = folder("pipe");
-    fs::write(folder.join("a.sheet"), example("torn")).expect("a file for the test");
-    let (reader, writer) = std::io::pipe().expect("a pipe");
-    drop(reader);
-    let closed = program(&folder, &["a.sheet"])
-        .stdout(writer)
-        .stderr(Stdio::piped())
-        .output();
-    assert_eq!(
-        ended(closed.expect("the program is there")),
-        Ended {
-            status: 0,
-            out: String::new(),
-            err: String::new()
-        }
-    );
-    if let Ok(full) = File::options().write(true).open("/dev/full") {
-        let Ended { status, err, .. } = ended(
-            program(&folder, &["a.sheet"])
-                .stdout(full)
-                .output()
-                .expect("the program is there"),
-        );
-        assert_eq!(status, 1);
-        assert!(
-            err.starts_with("sheet-look: standard output: ") && err.lines().count() == 1,
-            "{err}"
-        );
-    }
+    PROGRAM.output_that_nobody_takes(example("torn"));
 }

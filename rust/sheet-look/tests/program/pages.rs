@@ -2,7 +2,9 @@
 
 use std::fs;
 
-use crate::run::{example, table_and_drawing, top};
+use program_runs::top;
+
+use crate::run::{example, table_and_drawing};
 
 #[test]
 fn readme() {

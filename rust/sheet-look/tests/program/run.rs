@@ -1,32 +1,23 @@
-//! The program's runs, and folders of their own for them.
+//! The program, the example sheets for it, and what it prints and draws for a sheet.
 
 use std::fs;
 use std::path::{Path, PathBuf};
-use std::process::{Command, Output};
 
-/// Status, standard output and standard error.
-#[derive(Debug, PartialEq)]
-pub struct Ended {
-    pub status: i32,
-    pub out: String,
-    pub err: String,
-}
+use program_runs::{stored, Ended, Program};
 
-pub fn top() -> PathBuf {
-    Path::new(env!("CARGO_MANIFEST_DIR")).join("../..")
-}
+pub const PROGRAM: Program = Program {
+    name: "sheet-look",
+    file: env!("CARGO_BIN_EXE_sheet-look"),
+    folders: env!("CARGO_TARGET_TMPDIR"),
+};
 
 pub fn example(name: &str) -> Vec<u8> {
-    let path = top().join("examples/cruise").join(name).with_extension("sheet");
-    fs::read(&path).unwrap_or_else(|error| panic!("{}: {error}", path.display()))
+    stored(&format!("examples/cruise/{name}.sheet"))
 }
 
-/// An empty folder.
-pub fn folder(name: &str) -> PathBuf {
-    let folder = Path::new(env!("CARGO_TARGET_TMPDIR")).join("sheet-look").join(name);
-    let _ = fs::remove_dir_all(&folder);
-    fs::create_dir_all(&folder).expect("a folder for the test");
-    folder
+/// A folder with this sheet alone.
+pub fn folder(name: &str, sheet: &[u8]) -> PathBuf {
+    PROGRAM.folder(name, &[("a.sheet".into(), sheet.to_vec())])
 }
 
 /// The names of what is in a folder, in order.
@@ -39,31 +30,10 @@ pub fn names(folder: &Path) -> Vec<String> {
     names
 }
 
-/// The program, to be run in this folder.
-pub fn program(folder: &Path, arguments: &[&str]) -> Command {
-    let mut command = Command::new(env!("CARGO_BIN_EXE_sheet-look"));
-    command.current_dir(folder).args(arguments);
-    command
-}
-
-pub fn run(folder: &Path, arguments: &[&str]) -> Ended {
-    ended(program(folder, arguments).output().expect("the program is there"))
-}
-
-pub fn ended(output: Output) -> Ended {
-    let text = |bytes| String::from_utf8(bytes).expect("UTF-8");
-    Ended {
-        status: output.status.code().expect("it ends by itself"),
-        out: text(output.stdout),
-        err: text(output.stderr),
-    }
-}
-
 /// What the program prints for a sheet, with status 0 and no message. It makes no file.
 pub fn table(name: &str, input: &[u8]) -> String {
-    let folder = folder(name);
-    fs::write(folder.join("a.sheet"), input).expect("a file for the test");
-    let Ended { status, out, err } = run(&folder, &["a.sheet"]);
+    let folder = folder(name, input);
+    let Ended { status, out, err } = PROGRAM.run(&folder, &["a.sheet"]);
     assert_eq!((status, err.as_str()), (0, ""));
     assert_eq!(names(&folder), ["a.sheet"]);
     assert_eq!(fs::read(folder.join("a.sheet")).expect("the sheet is there"), input);
@@ -73,9 +43,8 @@ pub fn table(name: &str, input: &[u8]) -> String {
 /// What the program prints and draws for a sheet. It makes no other file, and prints what it prints without a drawing.
 pub fn table_and_drawing(name: &str, input: &[u8]) -> (String, String) {
     let printed = table(name, input);
-    let folder = folder(name);
-    fs::write(folder.join("a.sheet"), input).expect("a file for the test");
-    let Ended { status, out, err } = run(&folder, &["a.sheet", "--svg", "out.svg"]);
+    let folder = folder(name, input);
+    let Ended { status, out, err } = PROGRAM.run(&folder, &["a.sheet", "--svg", "out.svg"]);
     assert_eq!((status, out.as_str(), err.as_str()), (0, printed.as_str(), ""));
     assert_eq!(names(&folder), ["a.sheet", "out.svg"]);
     assert_eq!(fs::read(folder.join("a.sheet")).expect("the sheet is there"), input);

@@ -1,9 +1,7 @@
 //! The functions on the stand table. A table goes as a pointer with no length: it always has seventeen rows of twenty counts.
 
 use super::PayloadAnswer;
-
-/// Seventeen rows of twenty counts.
-pub type Counts = [[u32; 20]; 17];
+use crate::stand::Counts;
 
 /// What a number to be handed out is before the call, as for the other functions.
 const UNWRITTEN: u64 = u64::MAX;

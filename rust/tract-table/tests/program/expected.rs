@@ -2,12 +2,12 @@
 
 use std::collections::BTreeMap;
 
+use program_runs::Ended;
 use second::plot::{records, HEADER};
 use second::stand::Stand;
 use second::{sheet, Mode, Profile, Refusal};
 
 use crate::layout::table;
-use crate::run::Ended;
 use crate::sheets::File;
 
 /// A sheet that was read.
@@ -113,9 +113,14 @@ fn summary(stand: &Stand) -> String {
     }
 }
 
-/// How the program ends for these files in their order.
-pub fn run(files: &[File], mode: Mode, species: Option<&[u8]>) -> Ended {
-    let readings: Vec<_> = files.iter().map(|(_, input)| read(mode, input)).collect();
+/// How the program ends for these files in their order, each in its mode.
+pub fn run(files: &[File], modes: &[Mode], species: Option<&[u8]>) -> Ended {
+    assert_eq!(files.len(), modes.len());
+    let readings: Vec<_> = files
+        .iter()
+        .zip(modes)
+        .map(|((_, input), mode)| read(*mode, input))
+        .collect();
     let payloads = readings.iter().flatten().map(|reading| &reading.payload);
     let (list, count) = species.map_or_else(|| found(payloads), |list| (list.to_vec(), 0));
     let mut stand = Stand::begin(&list).expect("a good list");

@@ -2,12 +2,13 @@
 
 use std::fs;
 
-use crate::run::{run, top, Ended, EXAMPLES};
+use program_runs::{top, Ended};
 
-/// What the program prints with these options, as a page shows it.
-fn shown(options: &[&str], due: (i32, &str)) -> (String, String) {
-    let arguments = [options, &EXAMPLES].concat();
-    let Ended { status, out, err } = run(&top(), &arguments);
+use crate::run::{EXAMPLES, PROGRAM};
+
+/// A command, and what the program prints for it, as a page shows them.
+fn shown(arguments: &[&str], due: (i32, &str)) -> (String, String) {
+    let Ended { status, out, err } = PROGRAM.run(&top(), arguments);
     assert_eq!((status, err.as_str()), due);
     let indented = |line: &str| {
         if line.is_empty() {
@@ -28,9 +29,11 @@ fn has(page: &str, (command, text): &(String, String)) {
 
 #[test]
 fn examples() {
-    let in_spot_mode = shown(&["--spots"], (0, ""));
-    has("README.md", &in_spot_mode);
-    has("examples/README.md", &in_spot_mode);
+    let [ridge, creek, hollow] = EXAMPLES;
+    let all_added = shown(&[ridge, creek, "--spots", hollow], (0, ""));
+    has("README.md", &all_added);
+    has("examples/README.md", &all_added);
     let told = "tract-table: 1 of 3 sheets is not in the table\n";
-    has("examples/README.md", &shown(&["--species", "5,2,1"], (1, told)));
+    let one_left_out = shown(&["--species", "5,2,1", ridge, creek, hollow], (1, told));
+    has("examples/README.md", &one_left_out);
 }

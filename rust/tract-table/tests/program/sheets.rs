@@ -29,6 +29,23 @@ pub fn written(numbers: [usize; 5], payload: &[u8]) -> Vec<u8> {
     [&numbers.map(|number| number as u8)[..], &cells].concat()
 }
 
+/// The inputs of three sheets of one plot each: as written, with a scratch that spot mode refuses, and with mould that scratch mode refuses.
+pub fn differently_damaged() -> [Vec<u8>; 3] {
+    // h is 5
+    let numbers = [40, 10, 1, 8, 4];
+    let sheet = |plot| written(numbers, &record(plot, &[3, 32, 2]));
+    let [good, mut scratched, mut mouldy] = [1, 2, 3].map(sheet);
+    // seven cells of each block in a run
+    for cell in &mut scratched[5 + 40..5 + 68] {
+        *cell ^= 255;
+    }
+    // five cells of each block, eight cells apart
+    for cell in mouldy[5..].chunks_mut(32).flat_map(|cells| &mut cells[..4]) {
+        *cell ^= 255;
+    }
+    [good, scratched, mouldy]
+}
+
 /// Records of a few plots, of two dozen species.
 fn plots(random: &mut Random) -> Vec<u8> {
     let mut payload = Vec::new();
@@ -60,7 +77,7 @@ pub fn drawn(random: &mut Random) -> Vec<u8> {
             cells[start..start + random.between(1, 20)].fill(random.byte());
         }
         1 => {
-            let count = random.between(1, 12);
+            let count = random.between(1, 18);
             random.change(cells, count);
         }
         _ => {}

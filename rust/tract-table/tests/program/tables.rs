@@ -1,43 +1,98 @@
 //! What the program prints.
 
+use program_runs::stored;
 use second::plot::record;
 use second::random::Random;
 use second::Mode;
 
 use crate::expected;
-use crate::run::{example, folder, run, EXAMPLES};
-use crate::sheets::{drawn, files, written, File, LONGEST, SMALL};
+use crate::run::{EXAMPLES, PROGRAM};
+use crate::sheets::{differently_damaged, drawn, files, written, File, LONGEST, SMALL};
 
-/// What the program prints for these files, which is what the second decoder makes of them.
-fn held(name: &str, files: &[File], mode: Mode, species: Option<&[u8]>) -> String {
-    let folder = folder(name, files);
-    let list = species.map(|list| list.iter().map(u8::to_string).collect::<Vec<String>>().join(","));
-    let mut arguments: Vec<&str> = files.iter().map(|(name, _)| name.as_str()).collect();
-    if mode == Mode::Spots {
-        arguments.insert(0, "--spots");
+/// The files' names, with an option where the mode is not that of the file before, which for the first is scratch mode.
+fn arguments<'a>(files: &'a [File], modes: &[Mode]) -> Vec<&'a str> {
+    let (mut arguments, mut before) = (Vec::new(), Mode::Burst);
+    for ((name, _), &mode) in files.iter().zip(modes) {
+        if mode != before {
+            arguments.push(if mode == Mode::Spots { "--spots" } else { "--scratch" });
+        }
+        arguments.push(name);
+        before = mode;
     }
+    arguments
+}
+
+/// What the program prints for these files, each in its mode, which is what the second decoder makes of them.
+fn held(name: &str, files: &[File], modes: &[Mode], species: Option<&[u8]>) -> String {
+    let folder = PROGRAM.folder(name, files);
+    let list = species.map(|list| list.iter().map(u8::to_string).collect::<Vec<String>>().join(","));
+    let mut arguments = arguments(files, modes);
     if let Some(list) = &list {
         arguments.extend(["--species", list]);
     }
-    let ended = run(&folder, &arguments);
-    assert_eq!(ended, expected::run(files, mode, species));
+    let ended = PROGRAM.run(&folder, &arguments);
+    assert_eq!(ended, expected::run(files, modes, species), "{arguments:?}");
     ended.out
 }
 
 /// The same for one sheet, of these plots, in scratch mode.
 fn one_sheet(name: &str, numbers: [usize; 5], payload: &[u8], species: Option<&[u8]>) -> String {
-    held(name, &files([written(numbers, payload)]), Mode::Burst, species)
+    held(name, &files([written(numbers, payload)]), &[Mode::Burst], species)
+}
+
+/// Every choice of a mode for each of three sheets.
+fn modes_of_three() -> impl Iterator<Item = [Mode; 3]> {
+    (0..8).map(|choice| [0, 1, 2].map(|sheet| Mode::ALL[choice >> sheet & 1]))
 }
 
 #[test]
 fn examples() {
-    let sheets = files(EXAMPLES.map(example));
-    for mode in Mode::ALL {
-        held("examples", &sheets, mode, None);
-        for list in [&[5, 2, 1][..], &[14], &[99, 1], &[1, 2, 5, 9, 14]] {
-            held("examples", &sheets, mode, Some(list));
+    let sheets = files(EXAMPLES.map(stored));
+    for modes in modes_of_three() {
+        held("examples", &sheets, &modes, None);
+        for list in [&[][..], &[5, 2, 1], &[14], &[99, 1], &[1, 2, 5, 9, 14]] {
+            held("examples", &sheets, &modes, Some(list));
         }
     }
+}
+
+/// The scratched sheet is in the table if it is read in scratch mode, and the mouldy one if it is read in spot mode.
+#[test]
+fn a_mode_for_each_sheet() {
+    let sheets = files(differently_damaged());
+    for modes in modes_of_three() {
+        let text = held("modes", &sheets, &modes, None);
+        let torn = "2.sheet: not in the table: torn (refusal 3, place 0)\n";
+        assert_eq!(text.contains(torn), modes[2] == Mode::Burst, "{text}");
+        let spotted = "1.sheet: not in the table: spotted: ";
+        assert_eq!(text.contains(spotted), modes[1] == Mode::Spots, "{text}");
+    }
+}
+
+/// An option for the mode may be given again, and the list may stand anywhere.
+#[test]
+fn order_of_options() {
+    let sheets = files(differently_damaged());
+    let folder = PROGRAM.folder("order", &sheets);
+    let held = |line: &str, order: [usize; 3], modes: [Mode; 3]| {
+        let arguments: Vec<&str> = line.split(' ').collect();
+        let sheets = order.map(|number| sheets[number].clone());
+        let due = expected::run(&sheets, &modes, Some(&[7, 3]));
+        assert_eq!(due.status, 0, "every sheet is in the table");
+        assert_eq!(PROGRAM.run(&folder, &arguments), due, "{line}");
+    };
+    for line in [
+        "--species 7,3 0.sheet 1.sheet --spots 2.sheet",
+        "0.sheet --species 7,3 1.sheet --spots 2.sheet",
+        "0.sheet 1.sheet --spots --species 7,3 2.sheet",
+        "--scratch 0.sheet --scratch 1.sheet --spots 2.sheet --species 7,3",
+    ] {
+        held(line, [0, 1, 2], [Mode::Burst, Mode::Burst, Mode::Spots]);
+    }
+    let line = "--spots 2.sheet 0.sheet --scratch --species 7,3 1.sheet";
+    held(line, [2, 0, 1], [Mode::Spots, Mode::Spots, Mode::Burst]);
+    let line = "1.sheet --spots 2.sheet --scratch 0.sheet --species 7,3";
+    held(line, [1, 2, 0], [Mode::Burst, Mode::Spots, Mode::Burst]);
 }
 
 /// One block with one plot and one tree.
@@ -57,6 +112,24 @@ species  31-40  total
 ";
     let plot = record(7, &[3, 32, 1]);
     assert_eq!(one_sheet("singular", [20, 8, 1, 4, 1], &plot, Some(&[3])), due);
+}
+
+/// The list of no species: every tree is in the last row.
+#[test]
+fn empty_list() {
+    let due = "\
+0.sheet: 1 plot, 6 trees, 0 of 4 blocks mended
+
+Trees by species and diameter class in centimetres:
+
+species  31-40  41-50  total
+ others      2      4      6
+  total      2      4      6
+
+6 trees on 1 plot: 6 trees per plot and 0 over.
+";
+    let plot = record(7, &[3, 32, 2, 9, 44, 4]);
+    assert_eq!(one_sheet("empty_list", SMALL, &plot, Some(&[])), due);
 }
 
 /// A sheet with no plot is no failure.
@@ -119,7 +192,7 @@ fn more_than_a_thousand() {
     let [good, bad] = [2, 0].map(|count| written([20, 8, 1, 4, 1], &record(7, &[3, 32, count])));
     let sheet = |number| if number == 7 || number == 1_002 { &bad } else { &good };
     let sheets = files((0..1_004).map(|number| sheet(number).clone()));
-    let text = held("thousand", &sheets, Mode::Burst, None);
+    let text = held("thousand", &sheets, &[Mode::Burst; 1_004], None);
     let told = |number: usize| {
         let full = "tract full: a payload beyond 1,000, or a cell or counter above 400,000,000 (refusal 14, place 0)";
         format!("\n{number}.sheet: not in the table: {full}\n")
@@ -136,12 +209,12 @@ fn longest_sheets() {
     let lines: Vec<u8> = (1..=40).flat_map(|class| [99, 5 * class, 255]).collect();
     let payload: Vec<u8> = (1..=32).flat_map(|plot| record(plot, &lines)).collect();
     let sheets = files([written(LONGEST, &payload), written(LONGEST, &payload)]);
-    let text = held("longest", &sheets, Mode::Burst, None);
+    let text = held("longest", &sheets, &[Mode::Burst; 2], None);
     let due = "\n652800 trees on 64 plots: 10200 trees per plot and 0 over.\n";
     assert!(text.ends_with(due), "{text}");
 }
 
-/// Tracts of a few sheets, some of them damaged, in both modes, with a list and without.
+/// Tracts of a few sheets, some of them damaged, each in one of the modes, with a list and without.
 #[test]
 fn as_the_second_decoder() {
     let mut random = Random::new(11);
@@ -153,8 +226,9 @@ fn as_the_second_decoder() {
             .into_iter()
             .map(|number| 4 * number as u8 + 4)
             .collect();
-        let species = [None, Some(&list[..random.between(1, 6)])][round % 2];
-        let text = held("as_the_second_decoder", &sheets, Mode::ALL[round / 2 % 2], species);
+        let species = [None, Some(&list[..random.between(0, 6)])][round % 2];
+        let modes: Vec<Mode> = sheets.iter().map(|_| Mode::ALL[random.between(0, 1)]).collect();
+        let text = held("as_the_second_decoder", &sheets, &modes, species);
         for (word, times) in &mut words {
             *times += text.matches(*word).count();
         }
