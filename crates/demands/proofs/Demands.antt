@@ -1,5 +1,6 @@
 -- All demands together, and what stands beside them, each from the theorem of its own crate.
 use Rattle.field.proofs.Laws.{field-laws, alpha-laws}
+use Rattle.field.proofs.Polynomial.{sum-coefficients}
 use Rattle.code.proofs.Theorems.{codeword-iff-syndromes, minimum-distance, long-run-reaches}
 use Rattle.profile.proofs.Ranges.{in-range}
 use Rattle.block.proofs.Verdicts.{exactly-one}
@@ -64,6 +65,7 @@ pub beside : Beside
 beside = record {
   field = field-laws;
   powers = alpha-laws;
+  sums = sum-coefficients;
   codewords = codeword-iff-syndromes;
   distance = minimum-distance;
   long-runs = long-run-reaches;

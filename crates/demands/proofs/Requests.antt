@@ -1,5 +1,7 @@
 -- The requests of document 02, each from the theorem of its own crate.
 use mathlib.Core.Path.{sym, ap, _∙_}
+use Rattle.field.proofs.Polynomial.{product-iff, inverse-iff}
+use Rattle.field.proofs.Operation.{only-product}
 use Rattle.code.specs.Code.{distance}
 use Rattle.code.proofs.Distance.{distance-self}
 use Rattle.block.proofs.Promises.{uncorrectable-iff}
@@ -21,7 +23,7 @@ use Rattle.stand_promises.proofs.Trees.{tally-lines}
 use Rattle.stand_promises.proofs.Exactly.{beginning-exactly, adding-payload, total-exactly, per-plot-exactly}
 use Rattle.stand_promises.proofs.InTurn.{in-turn}
 use Rattle.former.proofs.AsBefore.{numbers-and-text-as-before}
-use Rattle.demands.specs.Requests.{Request1, Request2, Request3, Request4, Requests}
+use Rattle.demands.specs.Requests.{Request1, Request2, Request3, Request4, Request5, Requests}
 
 request-1 : Request1
 request-1 = record {
@@ -73,5 +75,8 @@ request-4 = record {
   per-plot = per-plot-exactly;
 }
 
+request-5 : Request5
+request-5 = record { product = product-iff; operation = only-product; inverse = inverse-iff }
+
 pub requests : Requests
-requests = record { first = request-1; second = request-2; third = request-3; fourth = request-4 }
+requests = record { first = request-1; second = request-2; third = request-3; fourth = request-4; fifth = request-5 }

@@ -6,6 +6,7 @@ use Prim.Native.Nat.{ℕ, _*_, _≤_}
 use lib.ListN.{length}
 use Rattle.lists.specs.Bytes.{Bytes}
 use Rattle.field.specs.Laws.{FieldLaws, AlphaLaws}
+use Rattle.field.specs.Polynomial.{SumCoefficients}
 use Rattle.code.specs.Theorems.{CodewordIffSyndromes, MinimumDistance, LongRunReaches}
 use Rattle.profile.specs.Profile.{InRange, InRangeIff, half}
 use Rattle.block.specs.Promises.{WritesCodeword, CleanIff, UncorrectableIff, AmbiguousIff, CorrectedIff, ExactlyOne, HalfPromise, DepthFree, BlockRefusals}
@@ -95,6 +96,8 @@ pub record Beside : Type 0 where
   -- "Field laws are shown for every n and r together."
   pub field : FieldLaws
   pub powers : AlphaLaws
+  -- "Sums are bitwise exclusive or": those of the polynomials that the bytes stand for
+  pub sums : SumCoefficients
   -- a codeword is what the generator divides, which is where all syndromes are zero; two codewords differ in more than r cells
   pub codewords : CodewordIffSyndromes
   pub distance : MinimumDistance

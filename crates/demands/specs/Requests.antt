@@ -4,6 +4,8 @@ use mathlib.Core.Path.{_≡_}
 use mathlib.Core.List.{List}
 use Prim.Native.Nat.{ℕ, _*_}
 use lib.ListN.{length}
+use Rattle.field.specs.Polynomial.{ProductIff, InverseIff}
+use Rattle.field.specs.Operation.{OnlyProduct}
 use Rattle.code.specs.Code.{distance}
 use Rattle.profile.specs.Profile.{InRange}
 use Rattle.profile.specs.declared.Profile.{Profile}
@@ -111,8 +113,19 @@ pub record Request4 : Type 0 where
   -- ".. 15 no plots, last, for the quotient only, when no plot was added."
   pub per-plot : (t : List (List ℕ)) (tract : Tract) → PerPlotExactly t tract
 
+-- Note 5, tables out
+pub record Request5 : Type 0 where
+  -- "However it is done now, products and inverses are worked out by the field's rule itself, shift and fold, with no table. Every product must be the field's, ..":
+  -- the one remainder of the product of the two bytes' polynomials, and the only operation with the laws of that field
+  pub product : ProductIff
+  pub operation : OnlyProduct
+  -- ".. every cell but 0 times its inverse must be 1, ..": and no other cell is such
+  pub inverse : InverseIff
+  -- ".. and no result changes.": every contract stands as it did, over the same definitions
+
 pub record Requests : Type 0 where
   pub first : Request1
   pub second : Request2
   pub third : Request3
   pub fourth : Request4
+  pub fifth : Request5

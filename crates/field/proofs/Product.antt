@@ -11,7 +11,7 @@ use Rattle.lists.proofs.Test.{all, all-at, equal-below}
 use Rattle.field.specs.Field.{add, gate, double, mulBits, mul}
 use Rattle.field.proofs.Sum.{bit-lt, add-assoc, add-comm, add-self, add-zero-l, add-zero-r, add-lt, add-left-comm, add-cancel, add-swap, add-shr, add-low, add-mod, add-twice, Additive, additive-zero, agree-byte, agree}
 
-byte-lt : (a : ℕ) → a % 256 < 256
+pub byte-lt : (a : ℕ) → a % 256 < 256
 byte-lt a = mod-lt a (zero-lt-suc 255)
 
 byte-byte : (a : ℕ) → a % 256 % 256 ≡ a % 256
@@ -64,6 +64,20 @@ double-byte a = rw (byte-byte a, high)
     high : a % 256 / 128 % 2 ≡ a / 128 % 2
     high = omega arith
 
+-- no bit leaves a byte below 128, and nothing is folded in
+fold-small : (m a : ℕ) → a < 128 → add (2 * (a % 256)) (gate (a / 128 % 2) m) ≡ 2 * a
+fold-small m a h = ap₂ (λ (x y : ℕ). add (2 * x) (gate y m)) low high ∙ add-zero-r (2 * a)
+  where
+    low : a % 256 ≡ a
+    low = omega arith
+
+    high : a / 128 % 2 ≡ 0
+    high = omega arith
+
+pub double-small : (a : ℕ) → a < 128 → double a ≡ 2 * a
+unfolding double
+double-small = fold-small _
+
 double-basis : T (all (λ i. eqb (double (2 ^ i)) (double (2 ^ i) % 256)) 8)
 unfolding double add
 double-basis = tt
@@ -95,7 +109,7 @@ bits-left (suc k) c a b =
     (ap (λ (x : ℕ). double (mulBits k x c)) (add-shr 1 a b) ∙ ap double (bits-left k c (a / 2) (b / 2)) ∙ double-add (mulBits k (a / 2) c) (mulBits k (b / 2) c))
     ∙ add-swap (gate (a % 2) c) (gate (b % 2) c) (double (mulBits k (a / 2) c)) (double (mulBits k (b / 2) c))
 
-bits-lt : (k a b : ℕ) → b < 256 → mulBits k a b < 256
+pub bits-lt : (k a b : ℕ) → b < 256 → mulBits k a b < 256
 unfolding mulBits
 bits-lt zero a b h = omega arith
 bits-lt (suc k) a b h = add-lt (gate (a % 2) b) (double (mulBits k (a / 2) b)) (gate-lt (a % 2) b h) (double-lt (mulBits k (a / 2) b))

@@ -1,6 +1,7 @@
 -- The field of document 01: "GF(256) with x^8+x^4+x^3+x^2+1 (hexadecimal 11D), α = 2. Sums are bitwise exclusive or." (F1, F2)
 -- An element is a byte, a number below 256; the bit of value 2^i is the coefficient of x^i. There is no table of powers or of
--- logarithms, so no logarithm of zero is ever looked up (F3).
+-- logarithms, so no logarithm of zero is ever looked up (F3). What product and inverse are, apart from the way they are computed here, is in
+-- Polynomial.antt and Operation.antt.
 -- Assumes nothing.
 use Prim.Native.Nat.{ℕ, zero, suc, _*_, _/_, _%_}
 use lib.Bits.{bitXor}

@@ -4,7 +4,7 @@
 use mathlib.Core.Path.{_≡_}
 use mathlib.Core.Logic.{_≢_}
 use Prim.Native.Nat.{ℕ, _^_, _<_}
-use Rattle.field.specs.Field.{add, mul, inverse, alpha}
+use Rattle.field.specs.Field.{add, double, mul, inverse, alpha}
 
 -- F1: bytes with exclusive or and the product modulo x^8+x^4+x^3+x^2+1 are a field
 pub record FieldLaws : Type 0 where
@@ -24,8 +24,8 @@ pub record FieldLaws : Type 0 where
   pub product-nonzero : (a b : ℕ) → a < 256 → a ≢ 0 → b < 256 → b ≢ 0 → mul a b ≢ 0
   pub product-cancels : (a b c : ℕ) → a < 256 → a ≢ 0 → b < 256 → c < 256 → mul a b ≡ mul a c → b ≡ c
 
--- F2: α = 2 has order 255, and its powers 0 to 254 are distinct nonzero bytes. Its first eight powers are the bits of a byte, and it is a
--- root of x^8+x^4+x^3+x^2+1: with the laws above that fixes the product of any two bytes
+-- F2: α = 2 has order 255, and its powers 0 to 254 are distinct nonzero bytes. Its first eight powers are the bits of a byte, it is a root of
+-- x^8+x^4+x^3+x^2+1 (that these fix the product of any two bytes is in Operation.antt), and doubling is the product with it
 pub record AlphaLaws : Type 0 where
   pub order : alpha 255 ≡ 1
   pub distinct : (i j : ℕ) → i < 255 → j < 255 → alpha i ≡ alpha j → i ≡ j
@@ -33,3 +33,4 @@ pub record AlphaLaws : Type 0 where
   pub nonzero : (i : ℕ) → alpha i ≢ 0
   pub bits : (i : ℕ) → i < 8 → alpha i ≡ 2 ^ i
   pub root : add (alpha 8) (add (alpha 4) (add (alpha 3) (add (alpha 2) (alpha 0)))) ≡ 0
+  pub doubles : (a : ℕ) → a < 256 → double a ≡ mul 2 a

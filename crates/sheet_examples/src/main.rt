@@ -65,7 +65,7 @@ fn write_small() {
 }
 
 // Eight blocks of three cells.
-fn read_worked(cells: [u8; 24], limit: usize) {
+fn read_worked(cells: &[u8], limit: usize) {
     let p = Profile {
         n: 3,
         r: 2,
@@ -75,7 +75,7 @@ fn read_worked(cells: [u8; 24], limit: usize) {
     };
     let mut scratch = [9u8; 24];
     let mut payload = [9u8; 8];
-    let reading = sheet::read(p, &cells, &mut scratch, &mut payload);
+    let reading = sheet::read(p, cells, &mut scratch, &mut payload);
     print_reading(reading, &payload, &scratch);
 }
 
@@ -109,74 +109,21 @@ fn read_short() {
     print_reading(reading, &payload, &scratch);
 }
 
-// The sheet of document 01, "The plot lister".
-fn written_cells() -> [u8; 24] {
-    [
-        160,
-        152,
-        14,
-        0,
-        2,
-        6,
-        64,
-        4,
-        240,
-        212,
-        9,
-        0,
-        3,
-        5,
-        96,
-        6,
-        80,
-        76,
-        7,
-        0,
-        1,
-        3,
-        32,
-        2,
-    ]
-}
-
-// The same with its first eight cells lost.
-fn scratched_cells() -> [u8; 24] {
-    [
-        0,
-        0,
-        0,
-        0,
-        0,
-        0,
-        0,
-        0,
-        240,
-        212,
-        9,
-        0,
-        3,
-        5,
-        96,
-        6,
-        80,
-        76,
-        7,
-        0,
-        1,
-        3,
-        32,
-        2,
-    ]
-}
-
 // 8 14 7 1, and 8 14 0 0, which is refused.
 fn refused_cells() -> [u8; 8] {
     [8, 8, 14, 14, 7, 0, 1, 0]
 }
 
 fn read_burst() {
-    read_worked(written_cells(), 1);
-    read_worked(scratched_cells(), 1);
+    // The sheet of document 01, "The plot lister"; then the same with its first eight cells lost.
+    read_worked(
+        b"\xa0\x98\x0e\x00\x02\x06\x40\x04\xf0\xd4\x09\x00\x03\x05\x60\x06\x50\x4c\x07\x00\x01\x03\x20\x02",
+        1,
+    );
+    read_worked(
+        b"\x00\x00\x00\x00\x00\x00\x00\x00\xf0\xd4\x09\x00\x03\x05\x60\x06\x50\x4c\x07\x00\x01\x03\x20\x02",
+        1,
+    );
     read_small(Mode::Burst, refused_cells(), 1);
     read_small(Mode::Burst, refused_cells(), 2);
     read_small(Mode::Burst, refused_cells(), 3);

@@ -2,7 +2,7 @@
 //! Writing solves a linear system for the check cells. Correction tries every run in order of length and
 //! solves, for each, the system of its cells against the r syndromes.
 
-use crate::gf::{power, products};
+use crate::gf::{add_multiples, power, product};
 use crate::linear::{solve, Elimination, Solutions};
 use crate::refusal::{refuse, Refusal, AMBIGUOUS, BUFFER_LENGTH, NO_CODEWORD, PROFILE_RANGE};
 
@@ -51,7 +51,10 @@ impl Profile {
 
     /// What a 1 in this cell adds to the r syndromes.
     pub(crate) fn column(&self, cell: usize) -> Vec<u8> {
-        (0..self.r).map(|i| power((self.b + i) * cell)).collect()
+        let (first, factor) = (power(self.b * cell), power(cell));
+        std::iter::successors(Some(first), |&x| Some(product(x, factor)))
+            .take(self.r)
+            .collect()
     }
 }
 
@@ -75,10 +78,7 @@ pub fn check_lengths(pairs: &[(usize, usize)]) -> Result<(), Refusal> {
 pub fn syndromes(profile: &Profile, cells: &[u8]) -> Vec<u8> {
     let mut values = vec![0; profile.r];
     for (cell, &content) in cells.iter().enumerate() {
-        let multiples = &products()[usize::from(content)];
-        for (value, x) in values.iter_mut().zip(profile.column(cell)) {
-            *value ^= multiples[usize::from(x)];
-        }
+        add_multiples(content, &profile.column(cell), &mut values);
     }
     values
 }

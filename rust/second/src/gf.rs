@@ -2,8 +2,6 @@
 //! A product is the plain product of two polynomials over GF(2), then the remainder of its long division
 //! by that polynomial. Sums are exclusive or and need no function.
 
-use std::sync::OnceLock;
-
 /// x^8+x^4+x^3+x^2+1, bit i being the coefficient of x^i.
 const MODULUS: u16 = 0x11D;
 
@@ -26,35 +24,42 @@ pub fn product(a: u8, b: u8) -> u8 {
     wide as u8
 }
 
-/// The inverse by search; zero has none.
-pub fn inverse(a: u8) -> Option<u8> {
-    let multiples = &products()[usize::from(a)];
-    (1..=255).find(|&x| multiples[usize::from(x)] == 1)
-}
-
-/// All products, `products()[a][b]`, computed once by `product`.
-pub fn products() -> &'static [[u8; 256]; 256] {
-    static TABLE: OnceLock<Box<[[u8; 256]; 256]>> = OnceLock::new();
-    TABLE.get_or_init(|| {
-        let mut table = Box::new([[0; 256]; 256]);
-        for a in 0..=255u8 {
-            for b in 0..=255u8 {
-                table[usize::from(a)][usize::from(b)] = product(a, b);
-            }
+/// Adds the multiples of a vector to another one. Products keep sums, so a multiple is the sum of those by the bits of the entry.
+pub fn add_multiples(factor: u8, vector: &[u8], sum: &mut [u8]) {
+    let bits: [u8; 8] = std::array::from_fn(|i| product(factor, 1 << i));
+    for (total, entry) in sum.iter_mut().zip(vector) {
+        for (i, bit) in bits.iter().enumerate() {
+            *total ^= (entry >> i & 1) * bit;
         }
-        table
-    })
+    }
 }
 
-/// α to this exponent.
+/// The inverse by Euclid's algorithm: `rest` is `factor` times a, and so is `other` `other_factor` times, but for multiples of the modulus, until
+/// the rest is 1. Zero has none.
+pub fn inverse(a: u8) -> Option<u8> {
+    let (mut rest, mut factor) = (u16::from(a), 1);
+    let (mut other, mut other_factor) = (MODULUS, 0);
+    while rest > 1 {
+        if rest.leading_zeros() > other.leading_zeros() {
+            std::mem::swap(&mut rest, &mut other);
+            std::mem::swap(&mut factor, &mut other_factor);
+        }
+        let shift = other.leading_zeros() - rest.leading_zeros();
+        rest ^= other << shift;
+        factor ^= other_factor << shift;
+    }
+    (rest == 1).then_some(factor as u8)
+}
+
+/// α to this exponent, by squares from its highest bit on; α^255 is 1.
 pub fn power(exponent: usize) -> u8 {
-    static POWERS: OnceLock<Vec<u8>> = OnceLock::new();
-    let powers = POWERS.get_or_init(|| {
-        std::iter::successors(Some(1), |&x| Some(product(x, ALPHA)))
-            .take(255)
-            .collect()
-    });
-    powers[exponent % 255]
+    (0..8).rev().fold(1, |root, i| {
+        let square = product(root, root);
+        match exponent % 255 >> i & 1 {
+            0 => square,
+            _ => product(square, ALPHA),
+        }
+    })
 }
 
 #[cfg(test)]
@@ -86,15 +91,13 @@ mod tests {
 
     #[test]
     fn products_obey_the_ring_laws() {
-        let table = products();
-        let times = |a: u8, b: u8| table[usize::from(a)][usize::from(b)];
         for a in 0..=255u8 {
-            assert_eq!(times(a, 1), a);
+            assert_eq!(product(a, 1), a);
             for b in 0..=255u8 {
-                assert_eq!(times(a, b), times(b, a));
+                assert_eq!(product(a, b), product(b, a));
                 for c in [1, 2, 3, 29, 76, 128, 255] {
-                    assert_eq!(times(a, times(b, c)), times(times(a, b), c));
-                    assert_eq!(times(a, b ^ c), times(a, b) ^ times(a, c));
+                    assert_eq!(product(a, product(b, c)), product(product(a, b), c));
+                    assert_eq!(product(a, b ^ c), product(a, b) ^ product(a, c));
                 }
             }
         }

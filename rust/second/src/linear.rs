@@ -2,7 +2,7 @@
 //! Each stored column carries below its own entries the combination of given columns that it is, so a
 //! target reduced to zero shows its solution in the part below.
 
-use crate::gf::{inverse, products};
+use crate::gf::{add_multiples, inverse, product};
 
 /// The solutions x of A·x = v.
 #[derive(Clone, Debug, PartialEq, Eq)]
@@ -81,7 +81,7 @@ fn next_pivot(pivots: &[Pivot], rows: usize, mut column: Vec<u8>) -> Option<Pivo
     let row = column[..rows].iter().position(|&x| x != 0)?;
     let factor = inverse(column[row]).expect("a pivot is not zero");
     for x in &mut column {
-        *x = products()[usize::from(factor)][usize::from(*x)];
+        *x = product(factor, *x);
     }
     Some((row, column))
 }
@@ -92,10 +92,7 @@ fn clear((row, pivot): &Pivot, vector: &mut [u8]) {
     if factor == 0 {
         return;
     }
-    let multiples = &products()[usize::from(factor)];
-    for (x, y) in vector.iter_mut().zip(pivot) {
-        *x ^= multiples[usize::from(*y)];
-    }
+    add_multiples(factor, pivot, vector);
 }
 
 /// Solves A·x = v, A given by its columns.
@@ -110,7 +107,6 @@ pub fn solve(columns: &[Vec<u8>], target: &[u8]) -> Solutions {
 #[cfg(test)]
 mod tests {
     use super::*;
-    use crate::gf::product;
     use crate::random::Random;
 
     fn apply(columns: &[Vec<u8>], x: &[u8]) -> Vec<u8> {
