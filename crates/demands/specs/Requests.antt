@@ -116,10 +116,10 @@ pub record Request4 : Type 0 where
 -- Note 5, tables out
 pub record Request5 : Type 0 where
   -- "However it is done now, products and inverses are worked out by the field's rule itself, shift and fold, with no table. Every product must be the field's, ..":
-  -- the one remainder of the product of the two bytes' polynomials, and the only operation with the laws of that field
+  -- the one remainder of the product of the two bytes' polynomials; and the only operation on bytes that has the laws of `IsFieldProduct`
   pub product : ProductIff
   pub operation : OnlyProduct
-  -- ".. every cell but 0 times its inverse must be 1, ..": and no other cell is such
+  -- ".. every cell but 0 times its inverse must be 1, ..": and times no other cell
   pub inverse : InverseIff
   -- ".. and no result changes.": every contract stands as it did, over the same definitions
 

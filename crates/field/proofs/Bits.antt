@@ -1,14 +1,16 @@
 -- Bits as coefficients: those of a sum, of twice a number, and of the product of two polynomials, one step at a time.
 -- Each follows the recursion of the definition; a coefficient of the product of (c + x · p) and q is one term and the coefficient below it of p and q.
 -- Assumes nothing.
-use mathlib.Core.Path.{_≡_, refl, sym, ap, ap₂, _∙_}
+use mathlib.Core.Path.{_≡_, refl, ap, ap₂, _∙_}
 use mathlib.Core.List.{List, [], _∷_}
 use Prim.Native.Nat.{ℕ, zero, suc, _+_, _-_, _*_, _/_, _%_, _^_, _<_}
-use native.Mathlib.Nat.{add-zero, zero-add, zero-mul}
+use native.Mathlib.Nat.{add-zero, zero-mul}
 use native.Mathlib.Omega.{arith}
+use Rattle.lists.specs.Sum.{sum}
 use Rattle.lists.proofs.Test.{equal-bits}
+use Rattle.lists.proofs.Sum.{same-sum, zero-sum}
 use Rattle.field.specs.Field.{add}
-use Rattle.field.specs.Polynomial.{lowBits, coefficient, sum, productCoefficient}
+use Rattle.field.specs.Polynomial.{lowBits, coefficient, productCoefficient}
 use Rattle.field.proofs.Sum.{bit-lt, add-shr, add-low}
 
 -- ---- the bits of a sum and of twice a number
@@ -52,19 +54,9 @@ bits-twice k a = ap₂ (λ (x y : ℕ). x ∷ lowBits k y) low half
 
 -- ---- the product of two polynomials
 
-sum-same : (n : ℕ) (f g : ℕ → ℕ) → ((i : ℕ) → f i ≡ g i) → sum n f ≡ sum n g
-unfolding sum
-sum-same zero f g h = refl
-sum-same (suc n) f g h = ap₂ (λ (x y : ℕ). x + y) (h 0) (sum-same n (λ i. f (suc i)) (λ i. g (suc i)) (λ i. h (suc i)))
-
-sum-zeros : (n : ℕ) → sum n (λ i. 0) ≡ 0
-unfolding sum
-sum-zeros zero = refl
-sum-zeros (suc n) = zero-add (sum n (λ i. 0)) ∙ sum-zeros n
-
 pub product-empty : (q : List ℕ) (k : ℕ) → productCoefficient [] q k ≡ 0
 unfolding productCoefficient
-product-empty q k = sum-same (suc k) (λ i. 0 * coefficient q (k - i)) (λ i. 0) (λ i. zero-mul (coefficient q (k - i))) ∙ sum-zeros (suc k)
+product-empty q k = zero-sum (suc k) (λ i. 0 * coefficient q (k - i)) (λ i l. zero-mul (coefficient q (k - i)))
 
 pub product-first : (c : ℕ) (p q : List ℕ) → productCoefficient (c ∷ p) q 0 ≡ c * coefficient q 0
 unfolding productCoefficient sum
@@ -74,8 +66,8 @@ pub product-next : (c : ℕ) (p q : List ℕ) (k : ℕ) → productCoefficient (
 unfolding productCoefficient sum
 product-next c p q k =
     ap₂ (λ (j x : ℕ). c * coefficient q j + x) whole
-    (sum-same (suc k) (λ i. coefficient p i * coefficient q (suc k - suc i)) (λ i. coefficient p i * coefficient q (k - i))
-    (λ i. ap (λ (j : ℕ). coefficient p i * coefficient q j) (less i)))
+    (same-sum (suc k) (λ i. coefficient p i * coefficient q (suc k - suc i)) (λ i. coefficient p i * coefficient q (k - i))
+    (λ i l. ap (λ (j : ℕ). coefficient p i * coefficient q j) (less i)))
   where
     whole : suc k - 0 ≡ suc k
     whole = omega arith

@@ -3,7 +3,7 @@
 -- Assumes nothing.
 use mathlib.Core.Path.{_≡_, refl, sym, ap, ap₂, _∙_, subst}
 use mathlib.Core.Logic.{⊎-elim}
-use Prim.Native.Nat.{ℕ, zero, suc, _*_, _%_, _^_, _<_}
+use Prim.Native.Nat.{ℕ, zero, suc, _%_, _^_, _<_}
 use native.Mathlib.Nat.{mod-eq-of-lt, pow-succ'}
 use native.Mathlib.Omega.{arith}
 use lib.Pow.{pow-lt}
@@ -27,20 +27,22 @@ module _ (times : ℕ → ℕ → ℕ) (h : IsFieldProduct times) where
   powers : (n : ℕ) → n < 8 → powerOfTwo times n ≡ 2 ^ n
   unfolding powerOfTwo
   powers zero l = refl
-  powers (suc n) l = ap (times 2) (powers n (omega arith)) ∙ h .doubles (2 ^ n) (bit-half n (omega arith)) ∙ sym (pow-succ' 2 n)
+  powers (suc n) l = ap (times 2) (powers n (omega arith)) ∙ h .twice-small (2 ^ n) (bit-half n (omega arith)) ∙ sym (pow-succ' 2 n)
 
   -- and the ninth is what the root leaves
+  ninth : powerOfTwo times 8 ≡ add (2 ^ 4) (add (2 ^ 3) (add (2 ^ 2) (2 ^ 0)))
+  ninth =
+      add-eq (powerOfTwo times 8) (add (powerOfTwo times 4) (add (powerOfTwo times 3) (add (powerOfTwo times 2) (powerOfTwo times 0)))) (h .root)
+      ∙ ap₂ add (powers 4 (omega arith)) (ap₂ add (powers 3 (omega arith)) (ap₂ add (powers 2 (omega arith)) (powers 0 (omega arith))))
+
   highest : times 2 (2 ^ 7) ≡ double (2 ^ 7)
   unfolding powerOfTwo double add
-  highest =
-      ap (times 2) (sym (powers 7 (omega arith)))
-      ∙ add-eq _ _ (h .root)
-      ∙ ap₂ add (powers 4 (omega arith)) (ap₂ add (powers 3 (omega arith)) (ap₂ add (powers 2 (omega arith)) (powers 0 (omega arith))))
+  highest = ap (times 2) (sym (powers 7 (omega arith))) ∙ ninth
 
   twice-bit : (i : ℕ) → i < 8 → times 2 (2 ^ i % 256) ≡ double (2 ^ i)
   twice-bit i l =
       ap (times 2) (mod-eq-of-lt (bit-byte i l))
-      ∙ ⊎-elim (λ s. h .doubles (2 ^ i) (bit-half i s) ∙ sym (double-small (2 ^ i) (bit-half i s)))
+      ∙ ⊎-elim (λ s. h .twice-small (2 ^ i) (bit-half i s) ∙ sym (double-small (2 ^ i) (bit-half i s)))
       (λ g. let e : 7 ≡ i = omega arith in subst (λ (j : ℕ). times 2 (2 ^ j) ≡ double (2 ^ j)) e highest) (lt-or-ge i 7)
 
   twice-add : Additive (λ x. times 2 (x % 256))
@@ -53,7 +55,7 @@ module _ (times : ℕ → ℕ → ℕ) (h : IsFieldProduct times) where
   bit-product zero b l k = h .one-left b k ∙ sym (one-mul b k)
   bit-product (suc i) b l k =
       let half : 2 ^ i < 128 = bit-half i (omega arith) in
-      ap (λ (x : ℕ). times x b) (pow-succ' 2 i ∙ sym (h .doubles (2 ^ i) half))
+      ap (λ (x : ℕ). times x b) (pow-succ' 2 i ∙ sym (h .twice-small (2 ^ i) half))
       ∙ h .associates 2 (2 ^ i) b (omega arith) (omega arith) k
       ∙ ap (times 2) (bit-product i b (omega arith) k)
       ∙ twice (mul (2 ^ i) b) (mul-lt (2 ^ i) b)
@@ -87,7 +89,7 @@ module _ (times : ℕ → ℕ → ℕ) (e : (a b : ℕ) → a < 256 → b < 256 
         ap (λ (x : ℕ). times x c) (e a b ha hb) ∙ e (mul a b) c (mul-lt a b) hc ∙ mul-assoc a b c ∙ sym (ap (times a) (e b c hb hc) ∙ e a (mul b c) ha (mul-lt b c));
     one-left = λ a ha. e 1 a (omega arith) ha ∙ one-mul a ha;
     one-right = λ a ha. e a 1 ha (omega arith) ∙ mul-one a ha;
-    doubles = λ a h. e 2 a (omega arith) (omega arith) ∙ mul-two a (omega arith) ∙ double-small a h;
+    twice-small = λ a h. e 2 a (omega arith) (omega arith) ∙ mul-two a (omega arith) ∙ double-small a h;
     root = ap₂ add (alphas 8) (ap₂ add (alphas 4) (ap₂ add (alphas 3) (ap₂ add (alphas 2) (alphas 0)))) ∙ alpha-root;
   }
 

@@ -19,7 +19,7 @@ pub record IsFieldProduct (times : ℕ → ℕ → ℕ) : Type 0 where
   pub associates : (a b c : ℕ) → a < 256 → b < 256 → c < 256 → times (times a b) c ≡ times a (times b c)
   pub one-left : (a : ℕ) → a < 256 → times 1 a ≡ a
   pub one-right : (a : ℕ) → a < 256 → times a 1 ≡ a
-  pub doubles : (a : ℕ) → a < 128 → times 2 a ≡ 2 * a
+  pub twice-small : (a : ℕ) → a < 128 → times 2 a ≡ 2 * a
   pub root : add (powerOfTwo times 8) (add (powerOfTwo times 4) (add (powerOfTwo times 3) (add (powerOfTwo times 2) (powerOfTwo times 0)))) ≡ 0
 
 -- the field's product is such an operation, and on bytes it is the only one

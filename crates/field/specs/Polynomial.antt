@@ -1,11 +1,12 @@
--- What the field's product and inverse are, whatever way they are worked out: by polynomials over one bit, with ordinary sums and products of numbers
--- (N5a, document 02: "Every product must be the field's, every cell but 0 times its inverse must be 1").
--- A polynomial is the list of its coefficients, those of 1, x, x^2 and on. Over one bit a coefficient counts modulo 2.
+-- What the field's product and inverse are, whatever way they are worked out: the product by polynomials over one bit, with ordinary sums and products of
+-- numbers, and the inverse by the product (N5a, document 02: "Every product must be the field's, every cell but 0 times its inverse must be 1").
+-- A polynomial over one bit is a list of bits, the coefficients of 1, x, x^2 and on; they are added and multiplied modulo 2.
 use mathlib.Core.Path.{_≡_}
 use mathlib.Core.Logic.{_↔_, _≢_}
 use mathlib.Core.List.{List, [], _∷_}
 use Prim.Native.Nat.{ℕ, zero, suc, _+_, _-_, _*_, _/_, _%_, _<_}
 use lib.ListN.{getD}
+use Rattle.lists.specs.Sum.{sum}
 use Rattle.field.specs.Field.{add, mul, inverse}
 
 -- the k low bits of a number, the lowest first
@@ -21,11 +22,6 @@ polynomial a = lowBits 8 a
 abbrev pub coefficient : List ℕ → ℕ → ℕ
 coefficient p k = getD p k 0
 
--- f 0 + f 1 + .. , n terms
-unfoldable pub sum : ℕ → (ℕ → ℕ) → ℕ
-sum zero f = 0
-sum (suc n) f = f 0 + sum n (λ i. f (suc i))
-
 -- the coefficient of x^k in the product of p and q: p₀ qₖ + p₁ qₖ₋₁ + .. + pₖ q₀
 unfoldable pub productCoefficient : List ℕ → List ℕ → ℕ → ℕ
 productCoefficient p q k = sum (suc k) (λ i. coefficient p i * coefficient q (k - i))
@@ -38,6 +34,7 @@ modulus = 1 ∷ 0 ∷ 1 ∷ 1 ∷ 1 ∷ 0 ∷ 0 ∷ 0 ∷ 1 ∷ []
 pub record Remainder (a b c : ℕ) : Type 0 where
   pub byte : c < 256
   pub quotient : List ℕ
+  pub bits : (k : ℕ) → coefficient quotient k < 2
   pub divided : (k : ℕ)
       → productCoefficient (polynomial a) (polynomial b) k % 2 ≡ (productCoefficient quotient modulus k + coefficient (polynomial c) k) % 2
 

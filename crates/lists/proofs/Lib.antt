@@ -1,3 +1,4 @@
 pub mod Test
 pub mod Fill
 pub mod Bytes
+pub mod Sum

@@ -17,7 +17,7 @@ use Rattle.sheet.specs.Buffers.{Payload, Lent, differing}
 use Rattle.sheet.specs.Theorems.{AllWords, Accepts, Results}
 use Rattle.sheet.proofs.Apart.{joined-length, joined-bytes}
 use Rattle.sheet.proofs.Modes.{word-of}
-use Rattle.sheet.proofs.Reader.{small-sum}
+use Rattle.lists.proofs.Sum.{small-sum}
 use Rattle.sheet.proofs.Theorems.{read-results}
 
 module _ (mode : Mode) (p : Profile) (sheet scratch out : List ℕ) (v : InRange p) (h : Lent p sheet scratch out) (changed : ℕ)

@@ -22,7 +22,7 @@ use Rattle.sheet.proofs.Places.{cell-inside}
 use Rattle.sheet.proofs.Apart.{block-cell, same-joined, joined-messages}
 use Rattle.sheet.proofs.Differ.{differ-self}
 use Rattle.sheet.proofs.Modes.{own-word}
-use Rattle.sheet.proofs.Reader.{same-sum, zero-sum}
+use Rattle.lists.proofs.Sum.{same-sum, zero-sum}
 use Rattle.sheet.proofs.Theorems.{block-cells, written-word, written-message, written-block, written-sheet, leaves-written, all-words}
 use Rattle.sheet.proofs.Runs as runs
 

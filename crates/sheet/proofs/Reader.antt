@@ -6,13 +6,14 @@ use mathlib.Core.List.{List}
 use Prim.Native.Nat.{ℕ, zero, suc, _+_, _≤_, _<_, zero-le, suc-le-suc}
 use native.Mathlib.Nat.{not-suc-le-zero, le-of-suc-le-suc, eq-or-lt-of-le, add-assoc}
 use native.Mathlib.Omega.{arith}
+use Rattle.lists.specs.Sum.{sum}
 use Rattle.lists.proofs.Test.{true-or-false}
+use Rattle.lists.proofs.Sum.{same-sum}
 use Rattle.profile.specs.declared.Profile.{Profile}
 use Rattle.sheet.specs.declared.Mode.{Mode}
 use Rattle.sheet.specs.declared.Refusal.the-variants.{Block}
 use Rattle.sheet.specs.declared.Reading.the-variants.{Refused, Accepted}
 use Rattle.sheet.specs.Sheet.{isCorrected, blockVerdict, changedAt, answerFrom, sheetAnswer}
-use Rattle.sheet.specs.Buffers.{sum}
 
 -- a test is true of every number below n, or there is a first of which it is false
 pub first-false : (f : ℕ → Bool) (n : ℕ)
@@ -22,24 +23,6 @@ first-false f (suc n) =
     ⊎-elim
     (λ a. ⊎-elim (λ t. inl (λ i l. ⊎-elim (λ e. ap f e ∙ t) (λ k. a i k) (eq-or-lt-of-le (le-of-suc-le-suc l)))) (λ t. inr (n, omega arith, a, t)) (true-or-false (f n)))
     (λ z. inr (z .0, omega (arith, z .1), z .2, z .3)) (first-false f n)
-
-pub same-sum : (n : ℕ) (f g : ℕ → ℕ) → ((i : ℕ) → i < n → f i ≡ g i) → sum n f ≡ sum n g
-unfolding sum
-same-sum zero f g h = refl
-same-sum (suc n) f g h = ap₂ (λ (a b : ℕ). a + b) (h 0 (suc-le-suc zero-le)) (same-sum n (λ (i : ℕ). f (suc i)) (λ (i : ℕ). g (suc i)) (λ i l. h (suc i) (suc-le-suc l)))
-
-pub zero-sum : (n : ℕ) (f : ℕ → ℕ) → ((i : ℕ) → i < n → f i ≡ 0) → sum n f ≡ 0
-unfolding sum
-zero-sum zero f h = refl
-zero-sum (suc n) f h = ap₂ (λ (a b : ℕ). a + b) (h 0 (suc-le-suc zero-le)) (zero-sum n (λ (i : ℕ). f (suc i)) (λ i l. h (suc i) (suc-le-suc l)))
-
-pub small-sum : (n : ℕ) (f : ℕ → ℕ) → ((i : ℕ) → i < n → f i ≤ 1) → sum n f ≤ n
-unfolding sum
-small-sum zero f h = zero-le
-small-sum (suc n) f h =
-    let a : f 0 ≤ 1 = h 0 (suc-le-suc zero-le) in
-    let b : sum n (λ (i : ℕ). f (suc i)) ≤ n = small-sum n (λ (i : ℕ). f (suc i)) (λ i l. h (suc i) (suc-le-suc l)) in
-    omega arith
 
 module _ (mode : Mode) (p : Profile) (sheet : List ℕ) where
   abbrev fine : ℕ → Bool

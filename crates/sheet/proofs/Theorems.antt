@@ -29,7 +29,8 @@ use Rattle.sheet.proofs.Apart.{block-length, block-bytes, message-lengt
 use Rattle.sheet.proofs.Lists.{getD-tab}
 use Rattle.sheet.proofs.Modes.{BlockLaw, block-law}
 use Rattle.sheet.proofs.Entry.{write-rest, read-rest}
-use Rattle.sheet.proofs.Reader.{first-false, same-sum, all-accepted, first-refused}
+use Rattle.sheet.proofs.Reader.{first-false, all-accepted, first-refused}
+use Rattle.lists.proofs.Sum.{same-sum}
 
 -- ---- the written sheet
 

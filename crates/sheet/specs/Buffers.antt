@@ -1,9 +1,10 @@
 -- What the writer and the reader are lent, and how changed blocks are counted: the words in which the theorems and the promise are said.
 use mathlib.Core.Path.{_≡_}
 use mathlib.Core.List.{List}
-use Prim.Native.Nat.{ℕ, zero, suc, _+_, _*_}
+use Prim.Native.Nat.{ℕ, _*_}
 use lib.ListN.{length}
 use Rattle.lists.specs.Choice.{pick}
+use Rattle.lists.specs.Sum.{sum}
 use Rattle.lists.specs.Bytes.{Bytes}
 use Rattle.profile.specs.Profile.{messageLength}
 use Rattle.profile.specs.declared.Profile.{Profile}
@@ -25,11 +26,6 @@ pub record Lent (p : Profile) (sheet scratch out : List ℕ) : Type 0 where
   pub cells : Sheet p sheet
   pub scratch-count : length scratch ≡ p .depth * p .n
   pub out-count : length out ≡ p .depth * messageLength p
-
--- f 0 + .. + f (n − 1)
-unfoldable pub sum : ℕ → (ℕ → ℕ) → ℕ
-sum zero f = 0
-sum (suc n) f = f 0 + sum n (λ (i : ℕ). f (suc i))
 
 -- in how many of n places two tables of lists differ
 abbrev pub differing : ℕ → (ℕ → List ℕ) → (ℕ → List ℕ) → ℕ

@@ -24,8 +24,9 @@ pub fn product(a: u8, b: u8) -> u8 {
     wide as u8
 }
 
-/// Adds the multiples of a vector to another one. Products keep sums, so a multiple is the sum of those by the bits of the entry.
+/// Adds the factor times a vector to another one, as long. Products keep sums, so a product is the sum of those with the bits of the entry.
 pub fn add_multiples(factor: u8, vector: &[u8], sum: &mut [u8]) {
+    debug_assert_eq!(vector.len(), sum.len());
     let bits: [u8; 8] = std::array::from_fn(|i| product(factor, 1 << i));
     for (total, entry) in sum.iter_mut().zip(vector) {
         for (i, bit) in bits.iter().enumerate() {
@@ -34,11 +35,11 @@ pub fn add_multiples(factor: u8, vector: &[u8], sum: &mut [u8]) {
     }
 }
 
-/// The inverse by Euclid's algorithm: `rest` is `factor` times a, and so is `other` `other_factor` times, but for multiples of the modulus, until
-/// the rest is 1. Zero has none.
+/// The inverse by Euclid's algorithm; zero has none. Up to multiples of the modulus, `rest` is `factor` times a and `other` is `other_factor` times a
+/// throughout, so once `rest` is 1, `factor` is the inverse.
 pub fn inverse(a: u8) -> Option<u8> {
-    let (mut rest, mut factor) = (u16::from(a), 1);
-    let (mut other, mut other_factor) = (MODULUS, 0);
+    let (mut rest, mut factor) = (u16::from(a), 1u16);
+    let (mut other, mut other_factor) = (MODULUS, 0u16);
     while rest > 1 {
         if rest.leading_zeros() > other.leading_zeros() {
             std::mem::swap(&mut rest, &mut other);
@@ -53,8 +54,8 @@ pub fn inverse(a: u8) -> Option<u8> {
 
 /// α to this exponent, by squares from its highest bit on; α^255 is 1.
 pub fn power(exponent: usize) -> u8 {
-    (0..8).rev().fold(1, |root, i| {
-        let square = product(root, root);
+    (0..8).rev().fold(1, |result, i| {
+        let square = product(result, result);
         match exponent % 255 >> i & 1 {
             0 => square,
             _ => product(square, ALPHA),
