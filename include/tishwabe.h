@@ -124,20 +124,21 @@ size_t tishwabe_write_sheet(size_t n, size_t r, size_t b, size_t limit, size_t d
                             const uint8_t *payload, size_t payload_length, /* D * k */
                             uint8_t *sheet, size_t sheet_length);          /* D * n */
 
-/* Reads a sheet in scratch mode: every block is corrected before a byte of the payload is written. *changed is the number of blocks changed.
+/* Reads a sheet in scratch mode: every block is judged before a byte of the payload is written. *changed is the number of blocks changed.
  * Refusals 1 to 4; *place is then the number of the lowest block that is refused by 3 or 4, and else 0. The buffer scratch is all zero after
- * every result but refusals 1 and 2, which leave it as it was. */
+ * every result but refusals 1 and 2, which leave it as it was.
+ * Earlier versions took a scratch of D * n bytes. A caller that still lends D * n, with D above 1, is told so by refusal 2; nothing else changed. */
 size_t tishwabe_read_sheet(size_t n, size_t r, size_t b, size_t limit, size_t depth,
                            const uint8_t *sheet, size_t sheet_length,   /* D * n */
-                           uint8_t *scratch, size_t scratch_length,     /* D * n */
+                           uint8_t *scratch, size_t scratch_length,     /* n */
                            uint8_t *payload, size_t payload_length,     /* D * k */
                            size_t *changed, size_t *place);
 
-/* Reads a sheet in spot mode: each block as by tishwabe_correct_spots, all else as in tishwabe_read_sheet. Refusals 1, 2 and 11; *place is the
- * number of the lowest block that is refused by 11, and else 0. */
+/* Reads a sheet in spot mode: each block as by tishwabe_correct_spots, all else as in tishwabe_read_sheet, the length of scratch too. Refusals 1, 2
+ * and 11; *place is the number of the lowest block that is refused by 11, and else 0. */
 size_t tishwabe_read_sheet_spots(size_t n, size_t r, size_t b, size_t limit, size_t depth,
                                  const uint8_t *sheet, size_t sheet_length,   /* D * n */
-                                 uint8_t *scratch, size_t scratch_length,     /* D * n */
+                                 uint8_t *scratch, size_t scratch_length,     /* n */
                                  uint8_t *payload, size_t payload_length,     /* D * k */
                                  size_t *changed, size_t *place);
 
@@ -203,7 +204,8 @@ size_t tishwabe_list_refusal(uint8_t number, size_t place, uint8_t *text, size_t
 
 /* The whole answer of the plot lister: the text for its standard input, the bytes n, r, b, L and D and then the sheet's D * n cells. The
  * sheet is read in scratch mode, and the text is that of its payload with the number of blocks changed, or that of the refusal; fewer than
- * five bytes are refusal 1, another number of cells refusal 2. The buffers of the reader are on the stack, 8,128 bytes. */
+ * five bytes are refusal 1, another number of cells refusal 2. The scratch and the payload buffer that it lends the reader are on
+ * the stack, 4,303 bytes. */
 size_t tishwabe_list_input(const uint8_t *input, size_t input_length, uint8_t *text, size_t text_length);
 
 #ifdef __cplusplus

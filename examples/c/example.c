@@ -61,9 +61,9 @@ typedef size_t reader(size_t n, size_t r, size_t b, size_t limit, size_t depth, 
 
 /* Reads the sheet and prints plot 300. */
 static void read_back(reader *read, const uint8_t *sheet) {
-    uint8_t scratch[D * N], payload[D * K] = {0};
+    uint8_t scratch[N], payload[D * K] = {0};
     size_t changed, place, length, figure, line;
-    size_t number = read(PROFILE, sheet, D * N, scratch, D * N, payload, D * K, &changed, &place);
+    size_t number = read(PROFILE, sheet, D * N, scratch, N, payload, D * K, &changed, &place);
     if (number != TISHWABE_ACCEPTED) {
         printf("refused: %zu, place %zu\n", number, place);
         return;
@@ -72,6 +72,14 @@ static void read_back(reader *read, const uint8_t *sheet) {
     number = tishwabe_ask(payload, D * K, 300, &place, &length, &figure, &line);
     printf("plot 300: answer %zu, place %zu, %zu bytes\n", number, place, length);
     print_record(payload + place, length);
+}
+
+/* A scratch of D * N bytes, as earlier versions took it, is a wrong length. */
+static void read_with_long_scratch(const uint8_t *sheet) {
+    uint8_t scratch[D * N], payload[D * K];
+    size_t changed, place;
+    size_t number = tishwabe_read_sheet(PROFILE, sheet, D * N, scratch, D * N, payload, D * K, &changed, &place);
+    printf("read with a scratch of %d bytes: answer %zu, place %zu\n", D * N, number, place);
 }
 
 /* The plot lister's answer: its input is the profile's five bytes and then the sheet. */
@@ -229,6 +237,7 @@ int main(void) {
 
     number = tishwabe_write_sheet(PROFILE, payload, D * K, sheet, D * N);
     printf("written: answer %zu\n", number);
+    read_with_long_scratch(sheet);
     read_back(tishwabe_read_sheet, sheet);
     memset(sheet + 10, 255, D * (R / 2)); /* a scratch of D * h cells */
     read_back(tishwabe_read_sheet, sheet);

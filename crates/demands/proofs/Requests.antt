@@ -23,7 +23,8 @@ use Rattle.stand_promises.proofs.Trees.{tally-lines}
 use Rattle.stand_promises.proofs.Exactly.{beginning-exactly, adding-payload, total-exactly, per-plot-exactly}
 use Rattle.stand_promises.proofs.InTurn.{in-turn}
 use Rattle.former.proofs.AsBefore.{numbers-and-text-as-before}
-use Rattle.demands.specs.Requests.{Request1, Request2, Request3, Request4, Request5, Requests}
+use Rattle.former.proofs.LessScratch.{as-former-reader, text-as-former, same-rule, former-scratch-refused}
+use Rattle.demands.specs.Requests.{Request1, Request2, Request3, Request4, Request5, Request6, Requests}
 
 request-1 : Request1
 request-1 = record {
@@ -78,5 +79,14 @@ request-4 = record {
 request-5 : Request5
 request-5 = record { product = product-iff; operation = only-product; inverse = inverse-iff }
 
+request-6 : Request6
+request-6 = record {
+  longer = former-scratch-refused;
+  same = as-former-reader;
+  text = text-as-former;
+  untouched = λ mode p sheet scratch out. sheet-refusals p .reads mode sheet scratch out .out-kept;
+  rule = same-rule;
+}
+
 pub requests : Requests
-requests = record { first = request-1; second = request-2; third = request-3; fourth = request-4; fifth = request-5 }
+requests = record { first = request-1; second = request-2; third = request-3; fourth = request-4; fifth = request-5; sixth = request-6 }

@@ -1,6 +1,7 @@
 -- What document 02 asks for, sentence by sentence in its own words ("Later changes to the base"), each with the statement that says it. A statement is defined
 -- in the crate that its `use` line names; proofs/Requests.antt proves them all.
 use mathlib.Core.Path.{_≡_}
+use mathlib.Core.Logic.{_≢_}
 use mathlib.Core.List.{List}
 use Prim.Native.Nat.{ℕ, _*_}
 use lib.ListN.{length}
@@ -13,6 +14,7 @@ use Rattle.block.specs.Promises.{LentBlock, UncorrectableIff}
 use Rattle.block.specs.LookAndFill.{LookIff, LookRefusals, FilledIff, OneWithin, NoCodewordIff, FillLimitFree, EmptyRun, FillRefusals, LooksThenFills, FillsAtOnce}
 use Rattle.spots.specs.Nearest.{LowestChanged}
 use Rattle.spots.specs.Promises.{CorrectsCells, CorrectedCellsIff, TooManyErrorsIff, NoTie, NearComesBack, LimitFree, SpotRefusals}
+use Rattle.sheet.specs.declared.Mode.{Mode}
 use Rattle.sheet.specs.declared.Mode.the-variants.{Burst, Spots}
 use Rattle.sheet.specs.Sheet.{writeSheetLeaves, readAnswer, readPayload}
 use Rattle.sheet.specs.Numbers.{readingNumber}
@@ -31,6 +33,7 @@ use Rattle.stand_promises.specs.Trees.{TallyLines}
 use Rattle.stand_promises.specs.Exactly.{BeginningExactly, AddingPayload, TotalExactly, PerPlotExactly}
 use Rattle.stand_promises.specs.InTurn.{InTurn}
 use Rattle.former.specs.AsBefore.{NumbersAndTextAsBefore}
+use Rattle.former.specs.LessScratch.{AsFormerReader, TextAsFormer, SameRule, FormerScratchRefused}
 
 -- Note 1, mould spots
 pub record Request1 : Type 0 where
@@ -82,7 +85,7 @@ pub record Request3 : Type 0 where
   -- ".. and elsewhere it means what it did.": of the corrector and of a read sheet
   pub elsewhere : UncorrectableIff
   pub reading : (p : Profile) (sheet scratch out : List ℕ) → InRange p → Lent p sheet scratch out → Results Burst p sheet scratch out
-  -- "The sheet reader uses both.": each block's look hands the fill what it has worked out, and that is the fill all the same
+  -- "The sheet reader uses both.": a look may hand its fill what it has worked out, and that is the fill all the same
   pub sheet : SheetByLooks
   pub at-once : FillsAtOnce
   -- "With a second buffer of n bytes, a look followed, where it accepts, by its fill must be what mending was."
@@ -123,9 +126,22 @@ pub record Request5 : Type 0 where
   pub inverse : InverseIff
   -- ".. and no result changes.": every contract stands as it did, over the same definitions
 
+-- Note 6, less scratch
+pub record Request6 : Type 0 where
+  -- "The sheet reader, in spot mode too, now takes a scratch of n bytes instead of D × n.": the longer one is refused by 2 where D is above 1; that n bytes are taken is in `same`
+  pub longer : FormerScratchRefused
+  -- "The scratch's length aside, verdicts, payload, refusals and their places are those of the old reader on every input, ..": the answer is equal as a whole, and so is the lister's text
+  pub same : AsFormerReader
+  pub text : TextAsFormer
+  -- ".. and a refused sheet still leaves the payload buffer untouched."
+  pub untouched : (mode : Mode) (p : Profile) (sheet scratch out : List ℕ) → readingNumber (readAnswer mode p sheet scratch out) ≢ 0 → readPayload mode p sheet scratch out ≡ out
+  -- "Afterwards the n bytes are zero, by the same rule as before."
+  pub rule : (mode : Mode) (p : Profile) (sheet out scratch : List ℕ) → SameRule mode p sheet out scratch
+
 pub record Requests : Type 0 where
   pub first : Request1
   pub second : Request2
   pub third : Request3
   pub fourth : Request4
   pub fifth : Request5
+  pub sixth : Request6

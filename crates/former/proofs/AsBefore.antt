@@ -1,4 +1,4 @@
--- The text is made from what was read, and the readings are equal, so the texts are; before a payload is read, nothing of the lister's answer changed. With the answers on a
+-- The text is made from what was read, and the readings are equal, so the texts are; before a payload is read, both are one text. With the answers on a
 -- payload (Unchanged.antt) that is all of specs/AsBefore.antt.
 use mathlib.Core.Path.{_≡_, refl, ap, _∙_}
 use mathlib.Core.List.{List}

@@ -1,3 +1,4 @@
+pub mod LessScratch
 pub mod Reading
 pub mod Unchanged
 pub mod AsBefore

@@ -1,3 +1,5 @@
+pub mod FormerReader
+pub mod LessScratch
 pub mod Former
 pub mod FormerText
 pub mod Unchanged

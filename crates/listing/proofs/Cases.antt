@@ -84,7 +84,7 @@ module _ (n m : ℕ) (l : List ℕ) (e : l ≡ replicate n 0) (h : m ≤ n) wher
 
 -- a sheet with them is what the reader is lent
 pub own-buffers : (p : Profile) (sheet : List ℕ) → Sheet p sheet → Lent p sheet (scratchBuffer p) (payloadBuffer p)
-own-buffers p sheet h = record { cells = h; scratch-count = length-replicate (p .depth * p .n) 0; out-count = length-replicate (p .depth * messageLength p) 0 }
+own-buffers p sheet h = record { cells = h; scratch-count = length-replicate (p .n) 0; out-count = length-replicate (p .depth * messageLength p) 0 }
 
 -- 16 blocks of 255 cells, of 253 message bytes
 module _ (p : Profile) (v : InRange p) where

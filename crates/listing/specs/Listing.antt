@@ -26,7 +26,7 @@ sheetAnswerText (Accepted changed) payload = listingText changed (reading payloa
 
 -- the reader's buffers, zero
 abbrev pub scratchBuffer : Profile → List ℕ
-scratchBuffer p = replicate (p .depth * p .n) 0
+scratchBuffer p = replicate (p .n) 0
 
 abbrev pub payloadBuffer : Profile → List ℕ
 payloadBuffer p = replicate (p .depth * messageLength p) 0

@@ -55,7 +55,7 @@ fn list_read(
     }
 }
 
-// With buffers of 4080 and 4048 zeros, of which the profile takes its parts.
+// With buffers of 255 and 4048 zeros, of which the profile takes its parts.
 fn list_with(
     p: Profile,
     sheet: &[u8],
@@ -63,13 +63,13 @@ fn list_with(
     payload: &mut [u8],
     out: &mut [u8],
 ) -> usize
-    requires { ⌜ InRange p × (now scratch ≡ replicate 4080 0) × (now payload ≡ replicate 4048 0) ⌝ }
+    requires { ⌜ InRange p × (now scratch ≡ replicate 255 0) × (now payload ≡ replicate 4048 0) ⌝ }
     ensures { λ r. ⌜ r ≡ textLength (sheetText p (now (sheet .entry))) (now (out .entry)) ⌝ }
     ensures { λ _. ⌜ now (out .exit) ≡ textIn (sheetText p (now (sheet .entry))) (now (out .entry)) ⌝ }
 {
-    let cells = p.depth * p.n;
+    let n = p.n;
     let size = p.depth * p.message_length();
-    list_read(p, sheet, &mut scratch[..cells], &mut payload[..size], out)
+    list_read(p, sheet, &mut scratch[..n], &mut payload[..size], out)
 }
 
 fn list_sheet(p: Profile, sheet: &[u8], out: &mut [u8]) -> usize
@@ -77,7 +77,7 @@ fn list_sheet(p: Profile, sheet: &[u8], out: &mut [u8]) -> usize
     ensures { λ r. ⌜ r ≡ textLength (sheetText p (now (sheet .entry))) (now (out .entry)) ⌝ }
     ensures { λ _. ⌜ now (out .exit) ≡ textIn (sheetText p (now (sheet .entry))) (now (out .entry)) ⌝ }
 {
-    let mut scratch = [0u8; 4080];
+    let mut scratch = [0u8; 255];
     let mut payload = [0u8; 4048];
     list_with(p, sheet, &mut scratch, &mut payload, out)
 }

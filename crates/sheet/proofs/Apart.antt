@@ -4,7 +4,7 @@ use mathlib.Core.Path.{_≡_, refl, sym, ap, ap₂, subst, _∙_}
 use mathlib.Core.Logic.{⊎-elim}
 use mathlib.Core.List.{List, _++_, append-nil}
 use Prim.Native.Nat.{ℕ, zero, suc, _+_, _*_, _-_, _/_, _%_, _<_, _≤_, zero-le, suc-le-suc}
-use native.Mathlib.Nat.{mul-comm, suc-mul, zero-mul, not-suc-le-zero, eq-or-lt-of-le}
+use native.Mathlib.Nat.{mul-comm, suc-mul, add-mul, zero-mul, not-suc-le-zero, eq-or-lt-of-le}
 use native.Mathlib.Numerals.{add-one}
 use native.Mathlib.Omega.{arith}
 use lib.ListN.{length, getD, set, drop, length-drop, drop-of-length-le}
@@ -13,7 +13,7 @@ use lib.Seq.{length-take-le, getD-take, getD-drop, ext-getD, getD-set-same, getD
 use Rattle.lists.specs.Bytes.{Bytes}
 use Rattle.lists.proofs.Bytes.{getD-byte, take-bytes, drop-bytes}
 use Rattle.sheet.specs.Sheet.{tab, interleave, blockOf, joined, messageOf}
-use Rattle.sheet.specs.Steps.{Laid, messageAt}
+use Rattle.sheet.specs.Steps.{Laid}
 use Rattle.sheet.specs.Theorems.{Places, TakenApart}
 use Rattle.sheet.proofs.Lists.{length-tab, getD-tab, is-tab, same-tab, part-more}
 use Rattle.sheet.proofs.Places as at
@@ -36,6 +36,21 @@ module _ (D n : ℕ) (sheet : List ℕ) (d : ℕ) where
   pub block-cell : (i : ℕ) → i < n → getD (blockOf D n sheet d) i 0 ≡ getD sheet (i * D + d) 0
   unfolding blockOf
   block-cell i l = getD-tab n _ i l
+
+-- the message cells of block d are block d of the sheet without its first r × D cells, which are the blocks' check cells
+pub message-cells : (D n r k : ℕ) (sheet : List ℕ) (d : ℕ) → r + k ≡ n → blockOf D k (drop (r * D) sheet) d ≡ drop r (blockOf D n sheet d)
+message-cells D n r k sheet d e =
+    ext-getD 0 (blockOf D k (drop (r * D) sheet) d) (drop r (blockOf D n sheet d)) (block-length D k _ d ∙ sym long)
+    (λ j l.
+    let g : j < k = subst (λ (m : ℕ). j < m) (block-length D k _ d) l in
+    block-cell D k _ d j g
+    ∙ getD-drop (r * D) sheet (j * D + d) 0
+    ∙ ap (λ (x : ℕ). getD sheet x 0) (let z : r * D + (j * D + d) ≡ (r + j) * D + d = omega (arith, add-mul r j D) in z)
+    ∙ sym (block-cell D n sheet d (r + j) (omega arith))
+    ∙ sym (getD-drop r (blockOf D n sheet d) j 0))
+  where
+    long : length (drop r (blockOf D n sheet d)) ≡ k
+    long = length-drop r (blockOf D n sheet d) ∙ (let z : length (blockOf D n sheet d) - r ≡ k = omega (arith, block-length D n sheet d) in z)
 
 module _ (D n : ℕ) (block : ℕ → List ℕ) where
   pub interleave-length : length (interleave D n block) ≡ D * n
@@ -143,19 +158,6 @@ module _ (k d : ℕ) (g : ℕ → List ℕ) (o s : List ℕ) (e : s ≡ joined d
   -- the end
   pub rows-end : (D : ℕ) → d ≡ D → length o ≡ D * k → s ≡ joined D k g
   rows-end D q l = e ∙ rw (q, drop-of-length-le o (let z : length o ≤ D * k = omega arith in z)) (append-nil _)
-
--- the message cells of blocks that stand one after the other are those of the blocks
-pub messages-of-rows : (D n r k : ℕ) (g : ℕ → List ℕ) → r + k ≡ n → joined D k (messageAt n r k (joined D n g)) ≡ joined D k (λ (d : ℕ). drop r (g d))
-unfolding joined messageAt
-messages-of-rows D n r k g e = same-tab (D * k) _ _ (λ q l. cell (q / k) (q % k) (message-below D k q l) (byte-below D k q l))
-  where
-    cell : (d j : ℕ) → d < D → j < k → getD (messageAt n r k (joined D n g) d) j 0 ≡ getD (drop r (g d)) j 0
-    cell d j h l =
-        getD-take k (drop (d * n + r) (joined D n g)) j 0 l
-        ∙ getD-drop (d * n + r) (joined D n g) j 0
-        ∙ ap (λ (x : ℕ). getD (joined D n g) x 0) (let z : d * n + r + j ≡ d * n + (r + j) = omega arith in z)
-        ∙ joined-byte D n g d (r + j) h (omega arith)
-        ∙ sym (getD-drop r (g d) j 0)
 
 -- ---- a loop that lays the cells of a block at d, D + d, 2 D + d, ..
 

@@ -3,7 +3,7 @@
 use mathlib.Core.Path.{_≡_, refl, sym, ap, _∙_}
 use mathlib.Core.Bool.{true, false}
 use mathlib.Core.List.{List}
-use Prim.Native.Nat.{ℕ, _+_, _*_, _≤_}
+use Prim.Native.Nat.{ℕ, _*_, _≤_}
 use native.Mathlib.Nat.{mul-le-mul}
 use native.Mathlib.Omega.{arith}
 use lib.Dec.{eqb}
@@ -20,9 +20,7 @@ use Rattle.sheet.specs.declared.Mode.{Mode}
 use Rattle.sheet.specs.declared.Refusal.the-variants.{BadProfile, WrongLength}
 use Rattle.sheet.specs.declared.Reading.{Reading}
 use Rattle.sheet.specs.declared.Reading.the-variants.{Refused}
-use Rattle.sheet.specs.Sheet.{joined, codeword, writtenSheet, writeSheetFits, writeSheetAnswer, writeSheetLeaves, isAccepted, sheetAnswer, sheetPayload, readFits, readAnswer, readScratch, readPayload}
-use Rattle.sheet.specs.Steps.{CorrectedAll, messageAt}
-use Rattle.sheet.proofs.Apart.{messages-of-rows}
+use Rattle.sheet.specs.Sheet.{writtenSheet, writeSheetFits, writeSheetAnswer, writeSheetLeaves, isAccepted, sheetAnswer, sheetPayload, readFits, readAnswer, readScratch, readPayload}
 
 module _ (p : Profile) (v : InRange p) where
   pub cells-small : p .depth * p .n ≤ 4080
@@ -77,27 +75,35 @@ write-rest p payload sheet v e f =
 
 -- ---- the reader
 
+-- what both passes leave in the payload buffer
+module _ (mode : Mode) (p : Profile) (sheet out : List ℕ) (r : Reading) (e : r ≡ sheetAnswer mode p sheet) where
+  pub payload-kept : isAccepted r ≡ false → out ≡ pick (isAccepted (sheetAnswer mode p sheet)) (sheetPayload mode p sheet) out
+  payload-kept a = rw (ap isAccepted (sym e) ∙ a)
+
+  pub payload-written : isAccepted r ≡ true → (m : List ℕ) → m ≡ sheetPayload mode p sheet → m ≡ pick (isAccepted (sheetAnswer mode p sheet)) (sheetPayload mode p sheet) out
+  payload-written a m q = rw (ap isAccepted (sym e) ∙ a) q
+
 module _ (p : Profile) (sheet scratch payload : ℕ) where
   pub read-sheet : (sheet ≡ p .depth * p .n → ⊥) → false ≡ readFits p sheet scratch payload
   unfolding readFits
   read-sheet n = rw (ne-eqb _ _ n)
 
-  pub read-scratch : sheet ≡ p .depth * p .n → (scratch ≡ p .depth * p .n → ⊥) → false ≡ readFits p sheet scratch payload
+  pub read-scratch : sheet ≡ p .depth * p .n → (scratch ≡ p .n → ⊥) → false ≡ readFits p sheet scratch payload
   unfolding readFits
   read-scratch e n = rw (eq-eqb _ _ e, ne-eqb _ _ n)
 
-  pub read-payload : sheet ≡ p .depth * p .n → scratch ≡ p .depth * p .n → eqb payload (p .depth * messageLength p) ≡ readFits p sheet scratch payload
+  pub read-payload : sheet ≡ p .depth * p .n → scratch ≡ p .n → eqb payload (p .depth * messageLength p) ≡ readFits p sheet scratch payload
   unfolding readFits
   read-payload e q = rw (eq-eqb _ _ e, eq-eqb _ _ q)
 
-  pub read-fits : sheet ≡ p .depth * p .n → scratch ≡ p .depth * p .n → payload ≡ p .depth * messageLength p → readFits p sheet scratch payload ≡ true
+  pub read-fits : sheet ≡ p .depth * p .n → scratch ≡ p .n → payload ≡ p .depth * messageLength p → readFits p sheet scratch payload ≡ true
   read-fits e q f = sym (read-payload e q) ∙ eq-eqb _ _ f
 
-  pub read-lengths : readFits p sheet scratch payload ≡ true → (sheet ≡ p .depth * p .n) × (scratch ≡ p .depth * p .n) × (payload ≡ p .depth * messageLength p)
+  pub read-lengths : readFits p sheet scratch payload ≡ true → (sheet ≡ p .depth * p .n) × (scratch ≡ p .n) × (payload ≡ p .depth * messageLength p)
   unfolding readFits
   read-lengths t =
-      let a = both-true (eqb sheet (p .depth * p .n)) (both (eqb scratch (p .depth * p .n)) (eqb payload (p .depth * messageLength p))) t in
-      let b = both-true (eqb scratch (p .depth * p .n)) (eqb payload (p .depth * messageLength p)) (a .1) in
+      let a = both-true (eqb sheet (p .depth * p .n)) (both (eqb scratch (p .n)) (eqb payload (p .depth * messageLength p))) t in
+      let b = both-true (eqb scratch (p .n)) (eqb payload (p .depth * messageLength p)) (a .1) in
       (eqb-true _ _ (a .0), eqb-true _ _ (b .0), eqb-true _ _ (b .1))
 
 module _ (mode : Mode) (p : Profile) (sheet scratch out : List ℕ) where
@@ -120,25 +126,8 @@ module _ (mode : Mode) (p : Profile) (sheet scratch out : List ℕ) where
       unfolding readAnswer readScratch readPayload
       read-past = (accept p _ _ _ _ t f, (accept p _ _ _ _ t f, accept p _ _ _ _ t f))
 
-      module _ (r : Reading) (s : List ℕ) (h : CorrectedAll mode p sheet r s) where
-        pub read-refused : isAccepted r ≡ false → (z : List ℕ) → z ≡ replicate (length scratch) 0 → Read r z out
-        read-refused a z e =
-            let o : out ≡ pick (isAccepted (sheetAnswer mode p sheet)) (sheetPayload mode p sheet) out = rw (ap isAccepted (sym (h .answer)) ∙ a) in
-            (h .answer ∙ read-past .0, (e ∙ read-past .1 .0, o ∙ read-past .1 .1))
-
-        pub read-accepted : InRange p → isAccepted r ≡ true → (z m : List ℕ) → z ≡ replicate (length scratch) 0
-            → m ≡ joined (p .depth) (messageLength p) (messageAt (p .n) (p .r) (messageLength p) s) → Read r z m
-        unfolding sheetPayload
-        read-accepted v a z m e q =
-            let k : p .r + messageLength p ≡ p .n = omega (arith, v .r-below) in
-            let o : m ≡ pick (isAccepted (sheetAnswer mode p sheet)) (sheetPayload mode p sheet) out =
-            rw (ap isAccepted (sym (h .answer)) ∙ a)
-            (q ∙ ap (λ (b : List ℕ). joined (p .depth) (messageLength p) (messageAt (p .n) (p .r) (messageLength p) b)) (h .words a)
-            ∙ messages-of-rows (p .depth) (p .n) (p .r) (messageLength p) (codeword mode p sheet) k) in
-            (h .answer ∙ read-past .0, (e ∙ read-past .1 .0, o ∙ read-past .1 .1))
-
 -- profile and lengths right
-pub read-rest : (mode : Mode) (p : Profile) (sheet scratch out : List ℕ) → InRange p → length sheet ≡ p .depth * p .n → length scratch ≡ p .depth * p .n → length out ≡ p .depth * messageLength p
+pub read-rest : (mode : Mode) (p : Profile) (sheet scratch out : List ℕ) → InRange p → length sheet ≡ p .depth * p .n → length scratch ≡ p .n → length out ≡ p .depth * messageLength p
     → (readAnswer mode p sheet scratch out ≡ sheetAnswer mode p sheet) × (readScratch mode p sheet scratch out ≡ replicate (length scratch) 0)
     × (readPayload mode p sheet scratch out ≡ pick (isAccepted (sheetAnswer mode p sheet)) (sheetPayload mode p sheet) out)
 read-rest mode p sheet scratch out v e f g =

@@ -11,5 +11,6 @@ pub mod Runs
 pub mod Promise
 pub mod Entry
 pub mod Steps
+pub mod Passes
 pub mod Accepted
 pub mod LimitFree

@@ -1,11 +1,12 @@
--- Laws on lists that are given cell by cell (`tab`), and on what a loop that writes them makes.
--- Each goes by recursion on the number of cells.
+-- Laws on lists that are given cell by cell (`tab`), on what a loop that writes them makes, and on parts of a list.
+-- Most go by recursion on the number of cells.
 use mathlib.Core.Path.{_≡_, refl, sym, ap, subst, _∙_}
-use mathlib.Core.List.{List, _∷_, _++_, append-assoc}
-use Prim.Native.Nat.{ℕ, zero, suc, _+_, _<_, _≤_}
+use mathlib.Core.List.{List, [], _∷_, _++_, append-assoc}
+use Prim.Native.Nat.{ℕ, zero, suc, _+_, _-_, _<_, _≤_}
 use native.Mathlib.Nat.{not-suc-le-zero, le-of-suc-le-suc, suc-add, zero-add}
-use lib.ListN.{length, getD, take, drop, replicate}
-use lib.Seq.{ext-getD, drop-drop, take-at, drop-at, length-take-le}
+use native.Mathlib.Omega.{arith}
+use lib.ListN.{length, getD, take, drop, replicate, length-drop}
+use lib.Seq.{ext-getD, drop-drop, take-all, take-take, take-at, drop-at, length-take-le}
 use Rattle.sheet.specs.Sheet.{tab}
 
 pub length-tab : (n : ℕ) (f : ℕ → ℕ) → length (tab n f) ≡ n
@@ -38,6 +39,17 @@ pub part-more : (a k : ℕ) (f : ℕ → ℕ) (o w : List ℕ) → a ≤ length 
 part-more a k f o w l e h =
     rw (take-at (tab a f) (drop a o) a (length-tab a f), drop-at (tab a f) (drop a o) a (length-tab a f), drop-drop, tab-add, append-assoc)
     (ap (λ (t : List ℕ). tab a f ++ (t ++ drop (a + k) o)) (is-tab k (λ (j : ℕ). f (a + j)) w e h))
+
+-- all that follows cell a
+pub rest-of : (a : ℕ) (s : List ℕ) → take (length s - a) (drop a s) ≡ drop a s
+rest-of a s = take-all (length s - a) (drop a s) (rw length-drop (omega arith))
+
+-- k cells from cell a on, of the first m that have them
+pub row-within : (a k m : ℕ) (s : List ℕ) → a + k ≤ m → take k (drop a s) ≡ take k (drop a (take m s))
+row-within zero k m s l = sym (take-take k m s (omega arith))
+row-within (suc a) k zero s l = absurd (omega arith)
+row-within (suc a) k (suc m) [] l = refl
+row-within (suc a) k (suc m) (x ∷ s) l = row-within a k m s (omega arith)
 
 -- 255 zeros, of which the first n are lent
 unfoldable pub zeros : List ℕ

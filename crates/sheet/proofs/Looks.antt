@@ -10,7 +10,7 @@ use Rattle.block.specs.Block.{verdict}
 use Rattle.block.specs.Numbers.{verdictNumber}
 use Rattle.block.specs.Runs.{Cells}
 use Rattle.profile.specs.declared.Profile.{Profile}
-use Rattle.block.proofs.Answers.{block-answer, block-leaves}
+use Rattle.block.proofs.Answers.{block-leaves}
 use Rattle.block.proofs.LookAndFill.{looks-then-fills}
 use Rattle.sheet.specs.declared.Mode.the-variants.{Burst}
 use Rattle.sheet.specs.Sheet.{readBlock, readAnswer}
@@ -19,6 +19,7 @@ use Rattle.sheet.specs.Buffers.{Lent}
 use Rattle.sheet.specs.Theorems.{LowestRefused, HasWord, Accepts, Results}
 use Rattle.sheet.specs.Looks.{lookAt, fillAt, LowestLook, SheetByLooks}
 use Rattle.sheet.proofs.Modes.{BlockLaw, block-law}
+use Rattle.sheet.proofs.Modes as modes
 use Rattle.sheet.proofs.Theorems.{block-cells, read-results}
 
 module _ (p : Profile) (sheet scratch out : List ℕ) (v : InRange p) (h : Lent p sheet scratch out) where
@@ -29,9 +30,7 @@ module _ (p : Profile) (sheet scratch out : List ℕ) (v : InRange p) (h : Lent 
   law d = block-law Burst p (readBlock p sheet d) v (whole d)
 
   look-verdict : (d : ℕ) → lookAt p sheet d ≡ verdict p (readBlock p sheet d)
-  look-verdict d =
-      let y : List ℕ = readBlock p sheet d in
-      looks-then-fills p y y (whole d .bytes) (whole d .count) .answer ∙ block-answer p v y (whole d .count) y (whole d .count)
+  look-verdict d = modes.look-verdict p (readBlock p sheet d) v (whole d)
 
   -- a look accepts exactly where the block has a codeword
   word-accepted : (d : ℕ) (c : List ℕ) → HasWord Burst p sheet d c → verdictNumber (lookAt p sheet d) ≡ 0

@@ -1,14 +1,14 @@
--- What a block's verdict means in each mode: it is refused by one number, or goes to one codeword, and tells whether a cell was changed. Every theorem on a
+-- What a block's verdict means in each mode: it is refused by one number, or goes to one codeword, tells whether a cell was changed, and has small numbers. Every theorem on a
 -- read sheet follows from `block-law`, and is proved for all modes at once.
 use mathlib.Core.Path.{_≡_, refl, sym, ap, subst, _∙_}
 use mathlib.Core.Logic.{_↔_, _≢_, _⊎_, inl, inr, ⊎-elim}
 use mathlib.Core.List.{List}
-use Prim.Native.Nat.{ℕ, _+_}
+use Prim.Native.Nat.{ℕ, _+_, _<_, _≤_}
 use native.Mathlib.Omega.{arith}
 use Rattle.code.specs.Code.{distance}
 use Rattle.code.proofs.Distance.{distance-self, distance-same}
-use Rattle.profile.specs.Profile.{InRange}
-use Rattle.block.specs.Block.{verdict, corrected}
+use Rattle.profile.specs.Profile.{InRange, half}
+use Rattle.block.specs.Block.{verdict, corrected, lookAnswer}
 use Rattle.block.specs.Numbers.{verdictNumber, verdictStart, verdictLength, verdictCount, verdictLowest}
 use Rattle.block.specs.Runs.{Cells, Word, Reached, OneReached}
 use Rattle.spots.specs.Spots.{spotVerdict, spotWord}
@@ -21,6 +21,8 @@ use Rattle.sheet.specs.declared.Mode.the-variants.{Burst, Spots}
 use Rattle.block.proofs.Shortest.{empty-run, word-clean}
 use Rattle.block.proofs.NumberLaws.{verdict-of, verdict-0, verdict-late}
 use Rattle.block.proofs.Verdicts.{clean-one, verdict-none, verdict-two, verdict-one}
+use Rattle.block.proofs.Answers.{block-answer}
+use Rattle.block.proofs.LookAndFill.{looks-then-fills}
 use Rattle.spots.proofs.Verdicts.{spot-none, spot-one, spot-near}
 use Rattle.spots.proofs.Answers.{spot-of, spot-late}
 use Rattle.sheet.specs.Modes.{verdictIn, wordIn, GoesTo, BlockRefusedBy}
@@ -31,6 +33,7 @@ module _ (mode : Mode) (p : Profile) (y : List ℕ) where
     pub refused : (number : ℕ) → ((verdictNumber (verdictIn mode p y) ≡ number) × (number ≢ 0)) ↔ BlockRefusedBy mode p y number
     pub accepted : (c : List ℕ) → ((verdictNumber (verdictIn mode p y) ≡ 0) × (wordIn mode p y ≡ c)) ↔ GoesTo mode p y c
     pub changed : verdictNumber (verdictIn mode p y) ≡ 0 → (verdictLength (verdictIn mode p y) + verdictCount (verdictIn mode p y) ≡ 0) ↔ (wordIn mode p y ≡ y)
+    pub small : verdictNumber (verdictIn mode p y) ≡ 0 → (verdictStart (verdictIn mode p y) < 256) × (verdictLength (verdictIn mode p y) + verdictCount (verdictIn mode p y) < 256)
 
 -- ---- burst mode
 
@@ -51,6 +54,20 @@ module _ (p : Profile) (y : List ℕ) where
           λ e. let k : f ≡ 0 = o .clean e .1 in omega arith,
         )
 
+    burst-small : verdictNumber (verdict p y) ≡ 0 → (verdictStart (verdict p y) < 256) × (verdictLength (verdict p y) + verdictCount (verdict p y) < 256)
+    burst-small q =
+        let w = verdict-0 p y q in
+        let s : ℕ = verdictStart (verdict p y) in
+        let f : ℕ = verdictLength (verdict p y) in
+        let o : OneReached p y s f (corrected p y) = verdict-one p y s f (corrected p y) v h .0 (w, refl) in
+        let z : verdictCount (verdict p y) ≡ 0 = ap verdictCount w in
+        let run : s + f ≤ p .n = o .reached .run in
+        (omega (arith, run, v .n-most), omega (arith, run, v .n-most, z))
+
+    -- a look answers the verdict
+    pub look-verdict : lookAnswer p y ≡ verdict p y
+    look-verdict = looks-then-fills p y y (h .bytes) (h .count) .answer ∙ block-answer p v y (h .count) y (h .count)
+
     burst-law : BlockLaw Burst p y
     burst-law = record {
       refused = λ number. (
@@ -64,6 +81,7 @@ module _ (p : Profile) (y : List ℕ) where
         λ g. let q = verdict-one p y (g .0) (g .1) c v h .1 (g .2) in (ap verdictNumber (q .0), q .1),
       );
       changed = burst-changed;
+      small = burst-small;
     }
 
 -- ---- spot mode
@@ -89,6 +107,15 @@ module _ (p : Profile) (y : List ℕ) where
           λ e. let k : distance y c ≡ 0 = ap (distance y) e ∙ distance-self y in omega arith,
         )
 
+    spot-small : verdictNumber (spotVerdict p y) ≡ 0 → (verdictStart (spotVerdict p y) < 256) × (verdictLength (spotVerdict p y) + verdictCount (spotVerdict p y) < 256)
+    spot-small q =
+        let w = spot-0 q in
+        let o : NearestWord p y (verdictCount (spotVerdict p y)) (verdictLowest (spotVerdict p y)) (spotWord p y) = spot-one p y v h _ _ (spotWord p y) .0 (w, refl) in
+        let s : verdictStart (spotVerdict p y) ≡ 0 = ap verdictStart w in
+        let z : verdictLength (spotVerdict p y) ≡ 0 = ap verdictLength w in
+        let t : verdictCount (spotVerdict p y) ≤ half p = o .within in
+        (omega (arith, s), omega (arith, z, t, v .r-most))
+
     spot-law : BlockLaw Spots p y
     spot-law = record {
       refused = λ number. (
@@ -100,6 +127,7 @@ module _ (p : Profile) (y : List ℕ) where
         λ g. let q = spot-one p y v h (g .0) (g .1) c .1 (g .2) in (ap verdictNumber (q .0), q .1),
       );
       changed = spot-changed;
+      small = spot-small;
     }
 
 -- ---- every mode

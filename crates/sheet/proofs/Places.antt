@@ -1,8 +1,8 @@
 -- Where the cells of a block and the bytes of a message stand. Place i D + d with d < D has quotient i and remainder d by D, and lies
 -- within D × n cells where i < n.
-use mathlib.Core.Path.{_≡_, _∙_}
+use mathlib.Core.Path.{_≡_, sym, _∙_}
 use Prim.Native.Nat.{ℕ, zero, suc, _+_, _*_, _/_, _%_, _<_, _≤_}
-use native.Mathlib.Nat.{suc-mul, mul-comm, mul-le-mul-right, mul-add-div-right, mul-add-mod-self-right, div-eq-of-lt, mod-eq-of-lt, div-lt-iff-lt-mul, mod-lt, div-add-mod', zero-mul}
+use native.Mathlib.Nat.{suc-mul, add-mul, mul-comm, mul-le-mul-right, mul-add-div-right, mul-add-mod-self-right, div-eq-of-lt, mod-eq-of-lt, div-lt-iff-lt-mul, mod-lt, div-add-mod', zero-mul}
 use native.Mathlib.Omega.{arith}
 
 -- cell i of block d lies within the sheet
@@ -13,9 +13,9 @@ cell-inside D n i d h g = omega (arith, mul-le-mul-right D g, suc-mul i D, mul-c
 pub part-inside : (D k d : ℕ) → d < D → d * k + k ≤ D * k
 part-inside D k d h = omega (arith, mul-le-mul-right k h, suc-mul d k)
 
--- and so do the k message cells of block d, of n = r + k cells
-pub cells-inside : (D n r k d : ℕ) → d < D → r + k ≡ n → d * n + r + k ≤ D * n
-cells-inside D n r k d h e = omega (arith, part-inside D n d h)
+-- the D × k message cells follow the r × D check cells
+pub checks-below : (D n r k : ℕ) → r + k ≡ n → r * D + D * k ≡ D * n
+checks-below D n r k e = rw (sym e) (omega (arith, mul-comm (r + k) D, mul-comm k D, add-mul r k D))
 
 module _ (D i d : ℕ) (h : d < D) where
   pub quotient-of : (i * D + d) / D ≡ i

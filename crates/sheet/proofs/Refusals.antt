@@ -40,7 +40,7 @@ module _ (p : Profile) (m cells : List ℕ) where
 
 -- ---- the reader
 
-abbrev Late : Reading → Type 0
+abbrev pub Late : Reading → Type 0
 Late r = (readingNumber r ≢ 1) × (readingNumber r ≢ 2)
 
 -- what the blocks answer is neither refusal 1 nor 2
@@ -52,7 +52,7 @@ module _ (mode : Mode) (p : Profile) (sheet : List ℕ) where
       pick-of Late (isCorrected (blockVerdict mode p sheet d)) (answerFrom mode p sheet left (suc d) (changed + changedAt mode p sheet d)) (Refused (Block d (blockVerdict mode p sheet d)))
       (blocks-late left (suc d) (changed + changedAt mode p sheet d)) (late-in mode p (readBlock p sheet d))
 
-  sheet-late : Late (sheetAnswer mode p sheet)
+  pub sheet-late : Late (sheetAnswer mode p sheet)
   unfolding sheetAnswer
   sheet-late = blocks-late (p .depth) 0 0
 
@@ -71,7 +71,7 @@ module _ (mode : Mode) (p : Profile) (sheet scratch out : List ℕ) where
   abbrev fits : Bool
   fits = readFits p (length sheet) (length scratch) (length out)
 
-  early : EarlyRefusals p ((length sheet ≡ p .depth * p .n) × (length scratch ≡ p .depth * p .n) × (length out ≡ p .depth * messageLength p)) (readingNumber answer)
+  early : EarlyRefusals p ((length sheet ≡ p .depth * p .n) × (length scratch ≡ p .n) × (length out ≡ p .depth * messageLength p)) (readingNumber answer)
   unfolding readAnswer
   early =
       early-of p fits _ (read-lengths p (length sheet) (length scratch) (length out), λ z. read-fits p (length sheet) (length scratch) (length out) (z .0) (z .1) (z .2)) readingNumber

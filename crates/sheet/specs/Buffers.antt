@@ -21,10 +21,10 @@ module _ (p : Profile) where
     pub count : length s ≡ p .depth * p .n
     pub bytes : Bytes s
 
--- what the reader is lent: a sheet and a scratch of D × n bytes, and a payload buffer of D × k
+-- what the reader is lent: a sheet of D × n bytes, a scratch of n (document 02, Note 6), and a payload buffer of D × k
 pub record Lent (p : Profile) (sheet scratch out : List ℕ) : Type 0 where
   pub cells : Sheet p sheet
-  pub scratch-count : length scratch ≡ p .depth * p .n
+  pub scratch-count : length scratch ≡ p .n
   pub out-count : length out ≡ p .depth * messageLength p
 
 -- in how many of n places two tables of lists differ

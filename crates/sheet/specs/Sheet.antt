@@ -113,10 +113,10 @@ abbrev pub isAccepted : Reading → Bool
 isAccepted (Accepted changed) = true
 isAccepted (Refused refusal) = false
 
--- sheet and scratch of D × n bytes, payload buffer of D × k
+-- a sheet of D × n bytes, "a scratch of n bytes instead of D × n" (document 02, Note 6), and a payload buffer of D × k
 unfoldable pub readFits : Profile → ℕ → ℕ → ℕ → Bool
 readFits p sheet scratch payload =
-    both (eqb sheet (p .depth * p .n)) (both (eqb scratch (p .depth * p .n)) (eqb payload (p .depth * messageLength p)))
+    both (eqb sheet (p .depth * p .n)) (both (eqb scratch (p .n)) (eqb payload (p .depth * messageLength p)))
 
 module _ (mode : Mode) (p : Profile) (sheet scratch payload : List ℕ) where
   abbrev fits : Bool

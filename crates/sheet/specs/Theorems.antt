@@ -110,7 +110,7 @@ pub record WriteSheetRefusals (p : Profile) (m cells : List ℕ) : Type 0 where
 
 -- the reader: refusals 1 and 2 have place 0 and leave the scratch; after every refusal the payload buffer is unchanged
 pub record ReadRefusals (mode : Mode) (p : Profile) (sheet scratch out : List ℕ) : Type 0 where
-  pub early : EarlyRefusals p ((length sheet ≡ p .depth * p .n) × (length scratch ≡ p .depth * p .n) × (length out ≡ p .depth * messageLength p)) (readingNumber (readAnswer mode p sheet scratch out))
+  pub early : EarlyRefusals p ((length sheet ≡ p .depth * p .n) × (length scratch ≡ p .n) × (length out ≡ p .depth * messageLength p)) (readingNumber (readAnswer mode p sheet scratch out))
   pub place : (readingNumber (readAnswer mode p sheet scratch out) ≡ 1) ⊎ (readingNumber (readAnswer mode p sheet scratch out) ≡ 2) → readingPlace (readAnswer mode p sheet scratch out) ≡ 0
   pub scratch-kept : (readingNumber (readAnswer mode p sheet scratch out) ≡ 1) ⊎ (readingNumber (readAnswer mode p sheet scratch out) ≡ 2) → readScratch mode p sheet scratch out ≡ scratch
   pub out-kept : readingNumber (readAnswer mode p sheet scratch out) ≢ 0 → readPayload mode p sheet scratch out ≡ out

@@ -1,16 +1,19 @@
 // The sheet of document 01: D interleaved blocks, written from a payload and read back with every block corrected. There is one reader for every
-// mode; a mode is how one block is corrected.
+// mode; a mode is how one block is corrected. Its two passes, with a scratch of one block (document 02, Note 6), are in judge.rt and fill.rt.
 ghost use mathlib.Core.Path.{_≡_};
 ghost use Prim.Native.Nat.{_+_, _*_, _≤_, _<_};
 ghost use lib.ListN.{length, replicate};
+ghost use Rattle.lists.specs.Choice.{pick};
 ghost use Rattle.profile.specs.Profile.{InRange, messageLength};
 ghost use Rattle.block.specs.Block.{encode};
-ghost use Rattle.sheet.specs.Sheet.{blockOf, joined, writtenSheet, readBlock, readAnswer, readScratch, readPayload, writeSheetAnswer, writeSheetLeaves, isCorrected, isAccepted, readFits, writeSheetFits};
-ghost use Rattle.sheet.specs.Steps.{Laid, CorrectedInto, CorrectedAll, changedBy, messageAt};
+ghost use Rattle.sheet.specs.Sheet.{blockOf, writtenSheet, sheetAnswer, sheetPayload, readAnswer, readScratch, readPayload, writeSheetAnswer, writeSheetLeaves, isCorrected, isAccepted, readFits, writeSheetFits};
+ghost use Rattle.sheet.specs.Steps.{Laid, changedBy};
 use block::Verdict;
 use block::Written;
 use profile::Profile;
 
+mod fill;
+mod judge;
 mod numbers;
 
 /// How the blocks of a sheet are read: each goes to the codeword within the shortest run, at most L cells long, or (document 02, Note 1) to the
@@ -114,7 +117,7 @@ fn read_fits(p: Profile, sheet: usize, scratch: usize, payload: usize) -> bool
     if sheet != cells {
         return false;
     }
-    if scratch != cells {
+    if scratch != n {
         return false;
     }
     payload == depth * k
@@ -134,120 +137,52 @@ fn write_fits(p: Profile, payload: usize, sheet: usize) -> bool
     sheet == depth * n
 }
 
-// The message cells of D blocks of n cells, one after the other.
-fn copy_messages(p: Profile, blocks: &[u8], payload: &mut [u8])
+// Both passes, with `word` for the codeword of the block at hand.
+fn read_with(
+    mode: Mode,
+    p: Profile,
+    sheet: &[u8],
+    scratch: &mut [u8],
+    word: &mut [u8],
+    payload: &mut [u8],
+) -> Reading
     requires { ⌜ InRange p ⌝ }
-    requires { ⌜ (length (now blocks) ≡ p .depth * p .n) × (length (now payload) ≡ p .depth * messageLength p) ⌝ }
-    ensures { λ _. ⌜ now (payload .exit) ≡ joined (p .depth) (messageLength p) (messageAt (p .n) (p .r) (messageLength p) (now (blocks .entry))) ⌝ }
+    requires { ⌜ (length (now sheet) ≡ p .depth * p .n) × (length (now scratch) ≡ p .n) × (length (now word) ≡ p .n) × (length (now payload) ≡ p .depth * messageLength p) ⌝ }
+    ensures { λ r. ⌜ r ≡ sheetAnswer mode p (now (sheet .entry)) ⌝ }
+    ensures { λ _. ⌜ now (payload .exit) ≡ pick (isAccepted (sheetAnswer mode p (now (sheet .entry)))) (sheetPayload mode p (now (sheet .entry))) (now (payload .entry)) ⌝ }
 {
-    let n = p.n;
-    let r = p.r;
-    let depth = p.depth;
-    let k = p.message_length();
-    let mut d: usize = 0;
-    while d < depth {
-        let from = d * n + r;
-        let to = d * k;
-        bytes::copy(&blocks[from..from + k], &mut payload[to..to + k]);
-        d += 1;
+    let mut starts = [0u8; 16];
+    let mut sizes = [0u8; 16];
+    let mut errors = [0u8; 448];
+    let answer = judge::judge_blocks(
+        mode,
+        p,
+        sheet,
+        scratch,
+        word,
+        &mut starts,
+        &mut sizes,
+        &mut errors,
+    );
+    if !is_accepted(answer) {
+        return answer;
     }
+    fill::write_messages(
+        mode,
+        p,
+        sheet,
+        &starts,
+        &sizes,
+        &errors,
+        scratch,
+        word,
+        payload,
+    );
+    answer
 }
 
-// Every block of the sheet as it was read, one after the other in the scratch.
-fn gather_blocks(p: Profile, sheet: &[u8], scratch: &mut [u8])
-    requires { ⌜ InRange p ⌝ }
-    requires { ⌜ (length (now sheet) ≡ p .depth * p .n) × (length (now scratch) ≡ p .depth * p .n) ⌝ }
-    ensures { λ _. ⌜ now (scratch .exit) ≡ joined (p .depth) (p .n) (readBlock p (now (sheet .entry))) ⌝ }
-{
-    let n = p.n;
-    let depth = p.depth;
-    let mut d: usize = 0;
-    while d < depth {
-        let a = d * n;
-        gather(sheet, d, depth, &mut scratch[a..a + n]);
-        d += 1;
-    }
-}
-
-// A block in burst mode, in place: a look, and the fill of its run where that has a cell, by the shifted remainder that the look has. A clean block and a
-// refused one stay as they were read.
-fn correct_burst(p: Profile, word: &mut [u8], part: &mut [u8]) -> Verdict
-    requires { ⌜ InRange p ⌝ }
-    requires { ⌜ (length (now part) ≡ p .n) × (length (now word) ≡ p .n) ⌝ }
-    ensures { λ r. ⌜ CorrectedInto Mode.Burst p (now (part .entry)) r (now (part .exit)) ⌝ }
-{
-    let found = block::judge(p, part);
-    let verdict = found.verdict;
-    let size = verdict.length();
-    if size == 0 {
-        return verdict;
-    }
-    let start = verdict.start();
-    bytes::copy(part, word);
-    block::fill_by(p, word, start, size, found.error, part);
-    verdict
-}
-
-// A block in spot mode, in place.
-fn correct_spots(p: Profile, word: &mut [u8], part: &mut [u8]) -> Verdict
-    requires { ⌜ InRange p ⌝ }
-    requires { ⌜ (length (now part) ≡ p .n) × (length (now word) ≡ p .n) ⌝ }
-    ensures { λ r. ⌜ CorrectedInto Mode.Spots p (now (part .entry)) r (now (part .exit)) ⌝ }
-{
-    bytes::copy(part, word);
-    spots::correct(p, word, part)
-}
-
-// A block corrected in place, with the read cells in `word` meanwhile.
-fn correct_with(mode: Mode, p: Profile, word: &mut [u8], part: &mut [u8]) -> Verdict
-    requires { ⌜ InRange p ⌝ }
-    requires { ⌜ (length (now part) ≡ p .n) × (length (now word) ≡ p .n) ⌝ }
-    ensures { λ r. ⌜ CorrectedInto mode p (now (part .entry)) r (now (part .exit)) ⌝ }
-{
-    match mode {
-        Mode::Burst => correct_burst(p, word, part),
-        Mode::Spots => correct_spots(p, word, part),
-    }
-}
-
-fn correct_block(mode: Mode, p: Profile, part: &mut [u8]) -> Verdict
-    requires { ⌜ InRange p ⌝ }
-    requires { ⌜ length (now part) ≡ p .n ⌝ }
-    ensures { λ r. ⌜ CorrectedInto mode p (now (part .entry)) r (now (part .exit)) ⌝ }
-{
-    let mut word = [0u8; 255];
-    let n = p.n;
-    correct_with(mode, p, &mut word[..n], part)
-}
-
-// Every block of the sheet, gathered into the scratch and corrected there, or the first that is refused.
-fn correct_blocks(mode: Mode, p: Profile, sheet: &[u8], scratch: &mut [u8]) -> Reading
-    requires { ⌜ InRange p ⌝ }
-    requires { ⌜ (length (now sheet) ≡ p .depth * p .n) × (length (now scratch) ≡ p .depth * p .n) ⌝ }
-    ensures { λ r. ⌜ CorrectedAll mode p (now (sheet .entry)) r (now (scratch .exit)) ⌝ }
-{
-    gather_blocks(p, sheet, scratch);
-    let n = p.n;
-    let blocks = p.depth;
-    let mut changed: usize = 0;
-    let mut d: usize = 0;
-    while d < blocks {
-        let a = d * n;
-        let v = correct_block(mode, p, &mut scratch[a..a + n]);
-        if !is_corrected(v) {
-            return Reading::Refused(Refusal::Block {
-                number: d,
-                verdict: v,
-            });
-        }
-        changed += changed_by(v);
-        d += 1;
-    }
-    Reading::Accepted { changed }
-}
-
-/// Reads a sheet of D × n cells in a mode: every block is corrected in the scratch (D × n bytes) before a byte of the payload (D × k bytes) is
-/// written. After every result but the refusals 1 and 2 the scratch is all zero.
+/// Reads a sheet of D × n cells in a mode: every block is judged in the scratch (n bytes) before a byte of the payload (D × k bytes) is written. After
+/// every result but the refusals 1 and 2 the scratch is all zero.
 pub fn read_in(
     mode: Mode,
     p: Profile,
@@ -265,12 +200,9 @@ pub fn read_in(
     if !read_fits(p, sheet.len(), scratch.len(), payload.len()) {
         return Reading::Refused(Refusal::WrongLength);
     }
-    let answer = correct_blocks(mode, p, sheet, scratch);
-    if !is_accepted(answer) {
-        clear(scratch);
-        return answer;
-    }
-    copy_messages(p, scratch, payload);
+    let mut word = [0u8; 255];
+    let n = p.n;
+    let answer = read_with(mode, p, sheet, scratch, &mut word[..n], payload);
     clear(scratch);
     answer
 }

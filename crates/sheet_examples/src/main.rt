@@ -1,5 +1,5 @@
 // Writes and reads the sheets of document 01 and prints what comes out, in decimal. The file stdout has the expected lines: the cells,
-// the payload and the numbers are those of document 01, "The plot lister" and "Bench sheet of examples". The last two are read in spot mode.
+// the payload and the numbers are those of document 01, "The plot lister" and "Bench sheet of examples". The last three are read in spot mode; the scratch of D × n bytes is document 02's, Note 6.
 use libc::STDOUT_FILENO;
 use profile::Profile;
 use sheet::Mode;
@@ -73,7 +73,7 @@ fn read_worked(cells: &[u8], limit: usize) {
         limit,
         depth: 8,
     };
-    let mut scratch = [9u8; 24];
+    let mut scratch = [9u8; 3];
     let mut payload = [9u8; 8];
     let reading = sheet::read(p, cells, &mut scratch, &mut payload);
     print_reading(reading, &payload, &scratch);
@@ -88,7 +88,7 @@ fn read_small(mode: Mode, cells: [u8; 8], limit: usize) {
         limit,
         depth: 2,
     };
-    let mut scratch = [9u8; 8];
+    let mut scratch = [9u8; 4];
     let mut payload = [9u8; 2];
     let reading = sheet::read_in(mode, p, &cells, &mut scratch, &mut payload);
     print_reading(reading, &payload, &scratch);
@@ -103,9 +103,30 @@ fn read_short() {
         limit: 0,
         depth: 2,
     };
-    let mut scratch = [9u8; 8];
+    let mut scratch = [9u8; 4];
     let mut payload = [9u8; 2];
     let reading = sheet::read(p, &[8, 14, 7, 1], &mut scratch, &mut payload);
+    print_reading(reading, &payload, &scratch);
+}
+
+// A clean sheet of two blocks, with a scratch of D × n bytes, where n are due.
+fn read_with_long_scratch(mode: Mode) {
+    let p = Profile {
+        n: 4,
+        r: 3,
+        b: 0,
+        limit: 0,
+        depth: 2,
+    };
+    let mut scratch = [9u8; 8];
+    let mut payload = [9u8; 2];
+    let reading = sheet::read_in(
+        mode,
+        p,
+        &[8, 0, 14, 0, 7, 0, 1, 0],
+        &mut scratch,
+        &mut payload,
+    );
     print_reading(reading, &payload, &scratch);
 }
 
@@ -128,12 +149,14 @@ fn read_burst() {
     read_small(Mode::Burst, refused_cells(), 2);
     read_small(Mode::Burst, refused_cells(), 3);
     read_short();
+    read_with_long_scratch(Mode::Burst);
 }
 
 fn read_spots() {
     // 8 14 7 1 and 0 0 0 0, with one cell of each changed.
     read_small(Mode::Spots, [9, 0, 14, 0, 7, 0, 1, 5], 0);
     read_small(Mode::Spots, refused_cells(), 2);
+    read_with_long_scratch(Mode::Spots);
 }
 
 fn main() {

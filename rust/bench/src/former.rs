@@ -15,13 +15,27 @@ use crate::timing::each_once;
 const ROUNDS: usize = 801;
 
 /// n, r and D.
-const SHAPES: [(usize, usize, usize); 4] = [(255, 16, 16), (255, 32, 16), (255, 64, 16), (60, 20, 8)];
+const SHAPES: [(usize, usize, usize); 6] = [
+    (255, 16, 16),
+    (255, 32, 16),
+    (255, 64, 16),
+    (60, 20, 8),
+    (60, 20, 16),
+    (16, 8, 16),
+];
 
 /// The functions compared, with the numbers that they answer: a refusal's number or 0, and then what include/tishwabe.h has in its order.
 pub trait Library {
     fn check(&self, numbers: Numbers, read: &[u8]) -> (usize, usize);
     fn correct(&self, numbers: Numbers, read: &[u8], out: &mut [u8]) -> (usize, usize, usize);
-    fn read(&self, numbers: Numbers, sheet: &[u8], scratch: &mut [u8], payload: &mut [u8]) -> (usize, usize, usize);
+    fn read(
+        &self,
+        mode: Mode,
+        numbers: Numbers,
+        sheet: &[u8],
+        scratch: &mut [u8],
+        payload: &mut [u8],
+    ) -> (usize, usize, usize);
 }
 
 /// The library that is linked.
@@ -36,8 +50,40 @@ impl Library for Linked {
         ffi::correct_block(Mode::Burst, numbers, read, out)
     }
 
-    fn read(&self, numbers: Numbers, sheet: &[u8], scratch: &mut [u8], payload: &mut [u8]) -> (usize, usize, usize) {
-        ffi::read_sheet(Mode::Burst, numbers, sheet, scratch, payload)
+    fn read(
+        &self,
+        mode: Mode,
+        numbers: Numbers,
+        sheet: &[u8],
+        scratch: &mut [u8],
+        payload: &mut [u8],
+    ) -> (usize, usize, usize) {
+        ffi::read_sheet(mode, numbers, sheet, scratch, payload)
+    }
+}
+
+/// A library with its scratch for sheets of one shape: n bytes or, before document 02's Note 6, D × n.
+struct Reader<'a> {
+    library: &'a dyn Library,
+    scratch: Vec<u8>,
+}
+
+impl Reader<'_> {
+    /// Asked to read a clean sheet with n bytes, a library that takes D × n answers 2.
+    fn new<'a>(library: &'a dyn Library, bench: &Bench) -> Reader<'a> {
+        let [n, .., depth] = bench.numbers;
+        let (sheet, mut payload) = (&bench.sheets[0].clean, bench.payload.clone());
+        let (number, ..) = library.read(Mode::Burst, bench.numbers, sheet, &mut vec![0; n], &mut payload);
+        let length = if number == 2 { depth * n } else { n };
+        Reader {
+            library,
+            scratch: vec![0; length],
+        }
+    }
+
+    fn read(&mut self, mode: Mode, numbers: Numbers, sheet: &[u8], payload: &mut [u8]) -> (usize, usize, usize) {
+        self.library
+            .read(mode, numbers, black_box(sheet), &mut self.scratch, payload)
     }
 }
 
@@ -45,27 +91,28 @@ impl Library for Linked {
 enum Work {
     ReadClean,
     ReadScratched,
+    ReadSpots,
     CorrectRun,
     CorrectClean,
     Check,
 }
 
-const WORKS: [Work; 5] = [
+const WORKS: [Work; 6] = [
     Work::ReadClean,
     Work::ReadScratched,
+    Work::ReadSpots,
     Work::CorrectRun,
     Work::CorrectClean,
     Work::Check,
 ];
 
-/// The inputs of one shape, and the buffers.
+/// The inputs of one shape, and the buffers but for the scratch.
 struct Bench {
     numbers: Numbers,
     h: usize,
     blocks: Vec<Block>,
     sheets: Vec<Sheet>,
     out: Vec<u8>,
-    scratch: Vec<u8>,
     payload: Vec<u8>,
 }
 
@@ -79,56 +126,54 @@ impl Bench {
             blocks: blocks(Shape { n, r, b }, 0, crate::BLOCKS),
             sheets: sheets(profile),
             out: vec![0; n],
-            scratch: vec![0; profile.sheet_length()],
             payload: vec![0; profile.payload_length()],
         }
     }
 
     /// Asserts that the library corrects every block and reads every sheet.
-    fn hold(&mut self, library: &dyn Library) {
+    fn hold(&mut self, reader: &mut Reader) {
         for block in &self.blocks {
             for read in [&block.clean, &block.run] {
                 self.out.fill(0);
-                assert_eq!(library.correct(self.numbers, read, &mut self.out).0, 0);
+                assert_eq!(reader.library.correct(self.numbers, read, &mut self.out).0, 0);
                 assert_eq!(self.out, block.clean);
             }
         }
         for sheet in &self.sheets {
-            for read in [&sheet.clean, &sheet.scratched] {
+            for (mode, read) in [
+                (Mode::Burst, &sheet.clean),
+                (Mode::Burst, &sheet.scratched),
+                (Mode::Spots, &sheet.spots),
+            ] {
                 self.payload.fill(0);
-                assert_eq!(
-                    library.read(self.numbers, read, &mut self.scratch, &mut self.payload).0,
-                    0
-                );
+                assert_eq!(reader.read(mode, self.numbers, read, &mut self.payload).0, 0);
                 assert_eq!(self.payload, sheet.payload);
             }
         }
     }
 
     /// Nanoseconds of a call.
-    fn sample(&mut self, work: Work, library: &dyn Library) -> f64 {
+    fn sample(&mut self, work: Work, reader: &mut Reader) -> f64 {
         let Bench {
             numbers,
             h,
             blocks,
             sheets,
             out,
-            scratch,
             payload,
         } = self;
-        let (numbers, depth) = (*numbers, numbers[4]);
+        let (numbers, depth, library) = (*numbers, numbers[4], reader.library);
         match work {
             Work::ReadClean => each_once(sheets, |sheet| {
-                assert_eq!(
-                    library.read(numbers, black_box(&sheet.clean), scratch, payload),
-                    (0, 0, 0)
-                )
+                assert_eq!(reader.read(Mode::Burst, numbers, &sheet.clean, payload), (0, 0, 0))
             }),
             Work::ReadScratched => each_once(sheets, |sheet| {
-                assert_eq!(
-                    library.read(numbers, black_box(&sheet.scratched), scratch, payload),
-                    (0, depth, 0)
-                )
+                let answer = reader.read(Mode::Burst, numbers, &sheet.scratched, payload);
+                assert_eq!(answer, (0, depth, 0))
+            }),
+            Work::ReadSpots => each_once(sheets, |sheet| {
+                let answer = reader.read(Mode::Spots, numbers, &sheet.spots, payload);
+                assert_eq!(answer, (0, depth, 0))
             }),
             Work::CorrectRun => each_once(blocks, |block| {
                 assert_eq!(library.correct(numbers, black_box(&block.run), out).2, *h)
@@ -147,6 +192,7 @@ impl Bench {
         match work {
             Work::ReadClean => "reading a clean sheet".into(),
             Work::ReadScratched => format!("reading a sheet with a scratch of {scratch}"),
+            Work::ReadSpots => format!("reading a sheet with {h} spots in each block"),
             Work::CorrectRun => format!("correcting a run of {h}"),
             Work::CorrectClean => "correcting a clean block".into(),
             Work::Check => "checking a clean block".into(),
@@ -161,14 +207,15 @@ pub fn table(former: &dyn Library) -> String {
     );
     for (n, r, depth) in SHAPES {
         let mut bench = Bench::new((n, r, depth));
-        bench.hold(former);
-        bench.hold(&Linked);
+        let [mut former, mut linked] = [former, &Linked].map(|library| Reader::new(library, &bench));
+        bench.hold(&mut former);
+        bench.hold(&mut linked);
         for work in WORKS {
             let mut pairs = Pairs::default();
             for _ in 0..ROUNDS {
                 pairs.round(|side| match side {
-                    Side::First => bench.sample(work, former),
-                    Side::Second => bench.sample(work, &Linked),
+                    Side::First => bench.sample(work, &mut former),
+                    Side::Second => bench.sample(work, &mut linked),
                 });
             }
             let work = bench.called(work);
@@ -207,9 +254,11 @@ mod tests {
         for shape in SHAPES {
             let mut bench = Bench::new(shape);
             for library in [&former as &dyn Library, &Linked] {
-                bench.hold(library);
+                let mut reader = Reader::new(library, &bench);
+                assert_eq!(reader.scratch.len(), shape.0);
+                bench.hold(&mut reader);
                 for work in WORKS {
-                    assert!(bench.sample(work, library) > 0.0);
+                    assert!(bench.sample(work, &mut reader) > 0.0);
                 }
             }
         }

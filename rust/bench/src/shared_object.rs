@@ -6,6 +6,7 @@ use std::os::unix::ffi::OsStrExt;
 use std::path::Path;
 
 use tishwabe::ffi::Numbers;
+use tishwabe::Mode;
 
 use crate::former::Library;
 
@@ -53,6 +54,7 @@ pub struct SharedObject {
     check: Check,
     correct: Correct,
     read: Read,
+    read_spots: Read,
 }
 
 impl SharedObject {
@@ -69,6 +71,7 @@ impl SharedObject {
                 check: function(object, c"tishwabe_check_block")?,
                 correct: function(object, c"tishwabe_correct_block")?,
                 read: function(object, c"tishwabe_read_sheet")?,
+                read_spots: function(object, c"tishwabe_read_sheet_spots")?,
             })
         }
     }
@@ -113,14 +116,19 @@ impl Library for SharedObject {
 
     fn read(
         &self,
+        mode: Mode,
         [n, r, b, limit, depth]: Numbers,
         sheet: &[u8],
         scratch: &mut [u8],
         payload: &mut [u8],
     ) -> (usize, usize, usize) {
+        let reader = match mode {
+            Mode::Burst => self.read,
+            Mode::Spots => self.read_spots,
+        };
         let (mut changed, mut place) = (0, 0);
         let number = unsafe {
-            (self.read)(
+            reader(
                 n,
                 r,
                 b,

@@ -51,7 +51,7 @@ pub fn measure(depth: usize, rounds: usize) -> [f64; 4] {
     let profile = Profile::new(255, 32, 1, 16, depth).expect("the profile is in range");
     let sheets = sheets(profile);
     let mut written = vec![0; profile.sheet_length()];
-    let mut scratch = vec![0; profile.sheet_length()];
+    let mut scratch = vec![0; profile.scratch_length()];
     let mut payload = vec![0; profile.payload_length()];
     let mut samples = [const { vec![] }; 4];
     for _ in 0..rounds {

@@ -69,6 +69,14 @@ pub fn wrong_length(random: &mut Random, due: usize) -> usize {
     }
 }
 
+/// A length of the scratch that is not the due one: D × n, which the reader took before document 02's Note 6, or any other.
+pub fn wrong_scratch(random: &mut Random, p: &Profile) -> usize {
+    match random.between(0, 1) {
+        0 if p.depth > 1 => p.depth * p.n,
+        _ => wrong_length(random, p.n),
+    }
+}
+
 /// Adds a nonzero byte to each cell of a run with this start and length.
 pub fn scratch(random: &mut Random, cells: &mut [u8], start: usize, length: usize) {
     for cell in &mut cells[start..start + length] {

@@ -53,6 +53,11 @@ pub fn profile(p: &second::Profile) -> Option<tishwabe::Profile> {
     assert_eq!(tishwabe::ffi::profile(numbers(p)), due, "{p:?}");
     let made = result.ok()?;
     assert_eq!((made.k(), made.h()), (p.k(), p.h()), "{p:?}");
+    assert_eq!(
+        (made.sheet_length(), made.scratch_length(), made.payload_length()),
+        (p.depth * p.n, p.n, p.depth * p.k()),
+        "{p:?}"
+    );
     Some(made)
 }
 

@@ -31,7 +31,7 @@ fn by_parts(input: &[u8]) -> Result<String, tishwabe::Error> {
         return Err(tishwabe::Error::BadProfile);
     };
     let p = tishwabe::Profile::new(n.into(), r.into(), b.into(), limit.into(), depth.into())?;
-    let mut scratch = vec![0; p.sheet_length()];
+    let mut scratch = vec![0; p.scratch_length()];
     let mut payload = vec![0; p.payload_length()];
     let changed = p.read_sheet(cells, &mut scratch, &mut payload)?;
     Ok(tishwabe::list(&payload, changed))

@@ -23,6 +23,11 @@ pub fn write(random: &mut Random, p: &Profile, payload: &[u8], length: usize) ->
     (answer, cells)
 }
 
+/// The due lengths of scratch and payload.
+pub fn lengths(p: &Profile) -> (usize, usize) {
+    (p.n, p.depth * p.k())
+}
+
 /// Reads a sheet with both in document 01's mode.
 pub fn read(random: &mut Random, p: &Profile, cells: &[u8], lengths: (usize, usize)) -> (Answer, Vec<u8>) {
     read_in(Mode::Burst, random, p, cells, lengths)
@@ -43,6 +48,7 @@ pub fn read_in(
     let answer = outcome(sheet::read_in(mode, p, cells, &mut due.0, &mut due.1), |changed| {
         (changed, 0)
     });
+    assert_left(answer.0, &before, &due);
     let found = ffi::read_sheet(library_mode(mode), numbers(p), cells, &mut scratch, &mut payload);
     assert_eq!(found, (answer.0, answer.2, answer.1), "{p:?} {cells:?}");
     assert_eq!((&scratch, &payload), (&due.0, &due.1), "{p:?} {cells:?}");
@@ -53,6 +59,15 @@ pub fn read_in(
         assert_eq!((scratch, payload), due);
     }
     (answer, due.1)
+}
+
+/// Scratch and payload of an answer with this number: 1 and 2 leave the scratch as it was, every other makes it zero, and a refusal leaves the payload.
+fn assert_left(number: usize, before: &(Vec<u8>, Vec<u8>), after: &(Vec<u8>, Vec<u8>)) {
+    match number {
+        1 | 2 => assert_eq!(after.0, before.0),
+        _ => assert!(after.0.iter().all(|&byte| byte == 0)),
+    }
+    assert!(number == 0 || after.1 == before.1);
 }
 
 /// The sheet of a payload, written with both, and scratched in one run of `least` to `most` cells.

@@ -1,7 +1,8 @@
 //! Sheets, written and read by the library and by the second decoder.
 
+use compare::block;
 use compare::draw::{self, Size};
-use compare::sheet::{damaged, read, read_in, scratched, write};
+use compare::sheet::{damaged, each_block, lengths, read, read_in, scratched, write};
 use compare::work::{called, run, Tally};
 use second::random::Random;
 use second::{cases, Mode, Profile};
@@ -10,7 +11,7 @@ const SIZE: Size = Size { n: 30, r: 10 };
 
 /// Reads with buffers of the due lengths, and says whether the payload came back.
 fn read_back(random: &mut Random, p: &Profile, cells: &[u8], payload: &[u8], tally: &mut Tally) -> bool {
-    let (answer, found) = read(random, p, cells, (p.depth * p.n, p.depth * p.k()));
+    let (answer, found) = read(random, p, cells, lengths(p));
     tally.count("sheets");
     tally.count(called(answer.0));
     answer.0 == 0 && found == payload
@@ -56,6 +57,65 @@ fn blocks_damaged_one_by_one() {
     }
 }
 
+/// Each block has a run of its own, of up to h cells.
+#[test]
+fn blocks_scratched_one_by_one() {
+    let tally = run("blocks scratched", 400, |_, random, tally| {
+        let mut p = draw::profile(random, Size { n: 255, r: 20 });
+        p.limit = random.between(p.h(), p.r - 1);
+        let payload = random.bytes(p.depth * p.k());
+        let cells = each_block(random, &p, &payload, |random, mut block| {
+            draw::run(random, &mut block, p.h());
+            block
+        });
+        assert!(read_back(random, &p, &cells, &payload, tally));
+    });
+    assert_eq!(tally.of("accepted"), tally.of("sheets"));
+}
+
+/// A scratch that both modes bring back, and a last block that is noise or between two codewords: no other block is refused.
+#[test]
+fn only_the_last_block_may_be_refused() {
+    let tally = run("the last block", 1_000, |_, random, tally| {
+        let mut p = draw::profile(random, SIZE);
+        p.limit = random.between(p.h(), p.r - 1);
+        let payload = random.bytes(p.depth * p.k());
+        let mut cells = scratched(random, &p, &payload, 0, p.depth * p.h());
+        let last = block::written(random, &p);
+        let damage = ["half a codeword", "noise"][random.between(0, 1)];
+        for (i, cell) in draw::damaged(random, &p, &last, damage).into_iter().enumerate() {
+            cells[i * p.depth + p.depth - 1] = cell;
+        }
+        for mode in Mode::ALL {
+            let (number, place, ..) = read_in(mode, random, &p, &cells, lengths(&p)).0;
+            assert_eq!(place, if number == 0 { 0 } else { p.depth - 1 });
+            tally.count(format!("{mode:?}: {}", called(number)));
+        }
+    });
+    for kind in ["Burst: torn", "Burst: tied", "Spots: spotted"] {
+        assert!(tally.of(kind) > 50, "{kind}");
+    }
+}
+
+/// A scratch of D × n bytes, which the reader took before document 02's Note 6, on sheets that are accepted with n bytes.
+#[test]
+fn a_scratch_as_long_as_the_sheet_is_refused() {
+    let tally = run("scratch of D × n bytes", 1_000, |_, random, tally| {
+        let mut p = draw::profile(random, SIZE);
+        p.limit = random.between(p.h(), p.r - 1);
+        let payload = random.bytes(p.depth * p.k());
+        let cells = scratched(random, &p, &payload, 0, p.depth * p.h());
+        for mode in Mode::ALL {
+            let (due, found) = read_in(mode, random, &p, &cells, lengths(&p));
+            assert_eq!((due.0, &found), (0, &payload));
+            let (answer, _) = read_in(mode, random, &p, &cells, (p.depth * p.n, p.depth * p.k()));
+            assert_eq!(answer, if p.depth == 1 { due } else { (2, 0, 0, 0) });
+            tally.count(called(answer.0));
+        }
+    });
+    assert!(tally.of("accepted") > 0 && tally.of("wrong frame") > tally.of("accepted"));
+}
+
 #[test]
 fn profiles_and_lengths_are_refused() {
     let bad = |random: &mut Random, p: &Profile| {
@@ -72,8 +132,12 @@ fn profiles_and_lengths_are_refused() {
         bad(random, &p);
         tally.count(called(1));
         let p = draw::profile(random, SIZE);
-        let due = [p.depth * p.n, p.depth * p.n, p.depth * p.k()];
-        let wrong = due.map(|length| draw::wrong_length(random, length));
+        let due = [p.depth * p.n, p.n, p.depth * p.k()];
+        let wrong = [
+            draw::wrong_length(random, due[0]),
+            draw::wrong_scratch(random, &p),
+            draw::wrong_length(random, due[2]),
+        ];
         for mask in 1..8 {
             let length = |i: usize| if mask >> i & 1 == 1 { wrong[i] } else { due[i] };
             let cells = random.bytes(length(0));

@@ -3,7 +3,7 @@
 use compare::block::correct_spots;
 use compare::draw::{self, Size};
 use compare::listing::list;
-use compare::sheet::{damaged, each_block, read, read_in, scratched};
+use compare::sheet::{damaged, each_block, lengths, read, read_in, scratched};
 use compare::work::{called, run, Tally};
 use second::random::Random;
 use second::{plot, Mode, Profile};
@@ -13,7 +13,7 @@ const SIZE: Size = Size { n: 30, r: 10 };
 
 /// Reads with buffers of the due lengths in spot mode, and counts the answer: number, place, blocks changed, and the payload buffer afterwards.
 fn read_spots(random: &mut Random, p: &Profile, cells: &[u8], tally: &mut Tally) -> (usize, usize, usize, Vec<u8>) {
-    let (answer, found) = read_in(Mode::Spots, random, p, cells, (p.depth * p.n, p.depth * p.k()));
+    let (answer, found) = read_in(Mode::Spots, random, p, cells, lengths(p));
     tally.count("sheets");
     tally.count(called(answer.0));
     (answer.0, answer.1, answer.2, found)
@@ -111,7 +111,7 @@ fn each_mode_has_its_numbers() {
         let payload = random.bytes(p.depth * p.k());
         let cells = damaged(random, &p, &payload);
         for mode in Mode::ALL {
-            let (answer, _) = read_in(mode, random, &p, &cells, (p.depth * p.n, p.depth * p.k()));
+            let (answer, _) = read_in(mode, random, &p, &cells, lengths(&p));
             tally.count(format!("{mode:?}: {}", called(answer.0)));
         }
     });
@@ -143,8 +143,7 @@ fn example(name: &str) -> (Vec<u8>, Profile) {
 fn example_sheets() {
     let mut random = Random::new(1);
     let (written, p) = example("written");
-    let lengths = (p.depth * p.n, p.depth * p.k());
-    let (clean, payload) = read(&mut random, &p, &written[5..], lengths);
+    let (clean, payload) = read(&mut random, &p, &written[5..], lengths(&p));
     assert_eq!(clean, (0, 0, 0, 0));
     assert_eq!(plot::records(&payload).map(|records| records.len()), Ok(12));
     for (name, due) in [
@@ -155,7 +154,7 @@ fn example_sheets() {
         ("mould", (0, 0, 8, 0)),
     ] {
         let (input, same) = example(name);
-        let (answer, found) = read_in(Mode::Spots, &mut random, &p, &input[5..], lengths);
+        let (answer, found) = read_in(Mode::Spots, &mut random, &p, &input[5..], lengths(&p));
         assert_eq!((same, answer), (p, due), "{name}");
         assert_eq!(answer.0 == 0, found == payload, "{name}");
     }

@@ -111,14 +111,22 @@ pub fn profiles_out_of_range() -> Vec<Profile> {
 
 /// For n=4, r=3 and D=2: lengths of sheet, scratch and payload, not all of them right.
 pub const WRONG_LENGTHS: [[usize; 3]; 8] = [
-    [7, 8, 2],
-    [9, 8, 2],
-    [8, 7, 2],
-    [8, 9, 2],
-    [8, 8, 1],
-    [8, 8, 3],
+    [7, 4, 2],
+    [9, 4, 2],
+    [8, 3, 2],
+    [8, 5, 2],
+    [8, 4, 1],
+    [8, 4, 3],
     [4, 4, 1],
     [0, 0, 0],
+];
+
+/// For n=4: D, and lengths of the scratch, of which 4 is right. D × n is not, unless D is 1.
+pub const SCRATCHES: [(usize, &[usize]); 4] = [
+    (1, &[4, 0, 3, 5]),
+    (2, &[4, 0, 3, 5, 8]),
+    (3, &[12]),
+    (16, &[4, 63, 64]),
 ];
 
 /// One tally line: species 3, class 32, count 2.

@@ -22,7 +22,7 @@ fn list_plots(input: &[u8]) -> Result<String, Refusal> {
     };
     let profile = Profile::from(numbers.map(usize::from));
     profile.check()?;
-    let mut scratch = vec![0; profile.depth * profile.n];
+    let mut scratch = vec![0; profile.n];
     let mut payload = vec![0; profile.depth * profile.k()];
     let changed = sheet::read(&profile, cells, &mut scratch, &mut payload)?;
     let mut text = String::from("plot,species,class,count\n");

@@ -32,7 +32,7 @@ pub fn read(profile: &Profile, sheet: &[u8], scratch: &mut [u8], payload: &mut [
     read_in(Mode::Burst, profile, sheet, scratch, payload)
 }
 
-/// The sheet reader in this mode; the result is the number of blocks changed.
+/// The sheet reader in this mode, with a scratch of n bytes (document 02, Note 6); the result is the number of blocks changed.
 pub fn read_in(
     mode: Mode,
     profile: &Profile,
@@ -44,32 +44,35 @@ pub fn read_in(
     let Profile { n, depth, .. } = *profile;
     check_lengths(&[
         (sheet.len(), depth * n),
-        (scratch.len(), depth * n),
+        (scratch.len(), n),
         (payload.len(), depth * profile.k()),
     ])?;
     let result = correct_blocks(mode, profile, sheet, scratch);
-    if result.is_ok() {
-        for (q, byte) in payload.iter_mut().enumerate() {
-            *byte = scratch[q / profile.k() * n + profile.r + q % profile.k()];
-        }
-    }
     scratch.fill(0);
-    result
+    let (messages, changed) = result?;
+    payload.copy_from_slice(&messages);
+    Ok(changed)
 }
 
-/// Corrects the blocks in turn, block t into cells t×n and on of the scratch; ends at the lowest refused.
-fn correct_blocks(mode: Mode, profile: &Profile, sheet: &[u8], scratch: &mut [u8]) -> Result<usize, Refusal> {
-    let mut changed = 0;
-    for (number, codeword) in scratch.chunks_mut(profile.n).enumerate() {
+/// Corrects the blocks in turn, each into the scratch: all messages, and the number of blocks changed. Ends at the lowest refused.
+fn correct_blocks(
+    mode: Mode,
+    profile: &Profile,
+    sheet: &[u8],
+    scratch: &mut [u8],
+) -> Result<(Vec<u8>, usize), Refusal> {
+    let (mut messages, mut changed) = (Vec::new(), 0);
+    for number in 0..profile.depth {
         let cells = block_of(profile, sheet, number);
         let in_block = |refusal: Refusal| Refusal {
             place: number,
             ..refusal
         };
-        mode.correct(profile, &cells, codeword).map_err(in_block)?;
-        changed += usize::from(cells != codeword);
+        mode.correct(profile, &cells, scratch).map_err(in_block)?;
+        messages.extend(&scratch[profile.r..]);
+        changed += usize::from(cells != scratch);
     }
-    Ok(changed)
+    Ok((messages, changed))
 }
 
 #[cfg(test)]
@@ -113,7 +116,7 @@ mod tests {
             let changed = (0..profile.depth)
                 .filter(|&t| block_of(&profile, &sheet, t) != block_of(&profile, &written, t))
                 .count();
-            let mut scratch = random.bytes(sheet.len());
+            let mut scratch = random.bytes(profile.n);
             let mut found = random.bytes(payload.len());
             assert_eq!(read(&profile, &sheet, &mut scratch, &mut found), Ok(changed));
             assert_eq!(found, payload);
@@ -137,7 +140,7 @@ mod tests {
             let changed = (0..profile.depth)
                 .filter(|&t| block_of(&profile, &sheet, t) != block_of(&profile, &written, t))
                 .count();
-            let mut scratch = random.bytes(sheet.len());
+            let mut scratch = random.bytes(profile.n);
             let mut found = random.bytes(payload.len());
             let result = read_in(Mode::Spots, &profile, &sheet, &mut scratch, &mut found);
             assert_eq!((result, &found), (Ok(changed), &payload));
@@ -145,24 +148,28 @@ mod tests {
         }
     }
 
-    /// Blocks 8 14 7 1 (clean), 8 14 0 0 (tied with 2), 9 14 7 0 (torn with 2) of document 01; both of the latter are spotted in spot mode.
+    /// Blocks 8 14 7 1 (clean), 9 14 7 1 (changed), 8 14 0 0 (tied with 2), 9 14 7 0 (torn with 2) of document 01; both of the latter are spotted in
+    /// spot mode.
     #[test]
     fn the_lowest_refused_block_is_named() {
-        let [clean, ambiguous, unreachable] = [[8, 14, 7, 1], [8, 14, 0, 0], [9, 14, 7, 0]];
+        let [clean, changed] = [[8, 14, 7, 1], [9, 14, 7, 1]];
+        let [ambiguous, unreachable] = [[8, 14, 0, 0], [9, 14, 7, 0]];
         let table = [
             ([clean, ambiguous, unreachable], AMBIGUOUS, 1),
             ([unreachable, clean, ambiguous], NO_CODEWORD, 0),
             ([clean, clean, unreachable], NO_CODEWORD, 2),
+            ([changed, changed, unreachable], NO_CODEWORD, 2),
+            ([changed, changed, ambiguous], AMBIGUOUS, 2),
             ([ambiguous, unreachable, unreachable], AMBIGUOUS, 0),
         ];
         for (blocks, number, place) in table {
             let profile = Profile::from([4, 3, 0, 2, 3]);
             let sheet: Vec<u8> = (0..12).map(|p| blocks[p % 3][p / 3]).collect();
             for (mode, number) in [(Mode::Burst, number), (Mode::Spots, NO_CODEWORD_NEAR)] {
-                let (mut scratch, mut payload) = ([170; 12], [170; 3]);
+                let (mut scratch, mut payload) = ([170; 4], [170; 3]);
                 let result = read_in(mode, &profile, &sheet, &mut scratch, &mut payload);
                 assert_eq!(result, refuse(number, place));
-                assert_eq!((scratch, payload), ([0; 12], [170; 3]));
+                assert_eq!((scratch, payload), ([0; 4], [170; 3]));
             }
         }
     }
@@ -189,6 +196,25 @@ mod tests {
                 assert_eq!(write(&profile, &payload, &mut sheet), refuse(BUFFER_LENGTH, 0));
             }
             assert!([sheet, scratch, payload].concat().iter().all(|&x| x == 170));
+        }
+    }
+
+    #[test]
+    fn the_scratch_has_n_bytes() {
+        let lengths = |(depth, lengths): (usize, &'static [usize])| lengths.iter().map(move |&length| (depth, length));
+        for (depth, length) in cases::SCRATCHES.into_iter().flat_map(lengths) {
+            let profile = Profile::from([4, 3, 0, 2, depth]);
+            let sheet = [9, 14, 7, 1].map(|cell| vec![cell; depth]).concat();
+            let due = if length == 4 {
+                (Ok(depth), vec![0; length], vec![1; depth])
+            } else {
+                (refuse(BUFFER_LENGTH, 0), vec![170; length], vec![170; depth])
+            };
+            for mode in Mode::ALL {
+                let (mut scratch, mut payload) = (vec![170; length], vec![170; depth]);
+                let result = read_in(mode, &profile, &sheet, &mut scratch, &mut payload);
+                assert_eq!((result, scratch, payload), due);
+            }
         }
     }
 }

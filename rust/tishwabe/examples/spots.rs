@@ -12,7 +12,7 @@ fn listed(input: &[u8]) -> Result<String, Error> {
     };
     let [n, r, b, limit, depth] = numbers.map(usize::from);
     let profile = Profile::new(n, r, b, limit, depth)?;
-    let mut scratch = vec![0; profile.sheet_length()];
+    let mut scratch = vec![0; profile.scratch_length()];
     let mut payload = vec![0; profile.payload_length()];
     let changed = profile.read_sheet_in(Mode::Spots, sheet, &mut scratch, &mut payload)?;
     Ok(list(&payload, changed))

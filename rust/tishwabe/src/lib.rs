@@ -17,7 +17,7 @@
 //!
 //! // A scratch of D × h cells.
 //! sheet[10..22].fill(255);
-//! let mut scratch = vec![0; profile.sheet_length()];
+//! let mut scratch = vec![0; profile.scratch_length()];
 //! let mut found = vec![0; profile.payload_length()];
 //! assert_eq!(profile.read_sheet(&sheet, &mut scratch, &mut found), Ok(3));
 //! assert_eq!(ask(&found, 7), Ok(&[0x50, 0x4C, 7, 0, 1, 3, 32, 2][..]));

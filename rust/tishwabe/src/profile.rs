@@ -48,6 +48,7 @@ impl Profile {
     /// let profile = Profile::new(255, 16, 0, 8, 16)?;
     /// assert_eq!((profile.k(), profile.h()), (239, 8));
     /// assert_eq!((profile.sheet_length(), profile.payload_length()), (4080, 3824));
+    /// assert_eq!(profile.scratch_length(), 255);
     /// assert_eq!(Profile::new(255, 16, 0, 16, 16), Err(Error::BadProfile));
     /// # Ok::<(), Error>(())
     /// ```
@@ -101,6 +102,11 @@ impl Profile {
     /// Bytes in a sheet's payload: D × k.
     pub fn payload_length(&self) -> usize {
         self.depth() * self.k()
+    }
+
+    /// Bytes in the scratch that the reader of a sheet takes, in either mode: n.
+    pub fn scratch_length(&self) -> usize {
+        self.n()
     }
 
     /// Writes the block of a message: k bytes in, n cells out. A refusal leaves `cells` as it was.
@@ -231,15 +237,19 @@ impl Profile {
         accepted(ffi::write_sheet(self.numbers, payload, sheet), 0, ())
     }
 
-    /// Reads a sheet of D × n cells in scratch mode into a payload of D × k bytes: the number of blocks changed. The buffer `scratch` of D × n
-    /// bytes is all zero afterwards, unless the lengths are refused. A refusal leaves `payload` as it was.
+    /// Reads a sheet of D × n cells in scratch mode into a payload of D × k bytes: the number of blocks changed. The buffer `scratch` of n bytes
+    /// ([`Profile::scratch_length`]) is all zero afterwards, unless the lengths are refused. A refusal leaves `payload` as it was.
+    ///
+    /// Earlier versions took a scratch of D × n bytes. That is now [`Error::WrongLength`], unless D is 1; all else is as it was.
     ///
     /// ```
     /// use tishwabe::{Error, Profile};
     /// let profile = Profile::new(4, 3, 0, 2, 2)?;
-    /// let (mut scratch, mut payload) = ([0; 8], [0; 2]);
-    /// assert_eq!(profile.read_sheet(&[9, 0, 14, 0, 7, 0, 1, 0], &mut scratch, &mut payload), Ok(1));
+    /// let (mut scratch, mut payload) = ([0; 4], [0; 2]);
+    /// let sheet = [9, 0, 14, 0, 7, 0, 1, 0];
+    /// assert_eq!(profile.read_sheet(&sheet, &mut scratch, &mut payload), Ok(1));
     /// assert_eq!(payload, [1, 0]);
+    /// assert_eq!(profile.read_sheet(&sheet, &mut [0; 8], &mut payload), Err(Error::WrongLength));
     /// let torn = [8, 9, 14, 14, 7, 7, 1, 0];
     /// assert_eq!(profile.read_sheet(&torn, &mut scratch, &mut payload), Err(Error::Uncorrectable { block: 1 }));
     /// # Ok::<(), Error>(())
@@ -248,7 +258,7 @@ impl Profile {
         self.read_sheet_in(Mode::Burst, sheet, scratch, payload)
     }
 
-    /// Reads a sheet in the mode named; all else as in [`Profile::read_sheet`], which is this in [`Mode::Burst`].
+    /// Reads a sheet in the mode named, with a scratch of n bytes in either; all else as in [`Profile::read_sheet`], which is this in [`Mode::Burst`].
     ///
     /// ```
     /// use tishwabe::{Error, Mode, Profile};

@@ -36,7 +36,7 @@ struct Reading {
 impl Reading {
     fn of(path: &Path, mode: Mode) -> Result<Reading, String> {
         let Sheet { profile, cells } = Sheet::read(path)?;
-        let mut scratch = vec![0; profile.sheet_length()];
+        let mut scratch = vec![0; profile.scratch_length()];
         let mut payload = vec![0; profile.payload_length()];
         let mended = profile
             .read_sheet_in(mode, &cells, &mut scratch, &mut payload)

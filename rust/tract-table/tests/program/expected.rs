@@ -20,7 +20,7 @@ struct Reading {
 fn read(mode: Mode, input: &[u8]) -> Result<Reading, Refusal> {
     let (&numbers, cells) = input.split_first_chunk().expect("five bytes");
     let profile = Profile::from(numbers.map(usize::from));
-    let mut scratch = vec![0; profile.depth * profile.n];
+    let mut scratch = vec![0; profile.n];
     let mut payload = vec![0; profile.depth * profile.k()];
     let changed = sheet::read_in(mode, &profile, cells, &mut scratch, &mut payload)?;
     Ok(Reading {

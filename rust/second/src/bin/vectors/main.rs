@@ -173,6 +173,21 @@ mod tests {
         }
     }
 
+    /// In each mode, of sheets of sixteen blocks: all changed, all but one, one, and every second; only the last refused; the scratch refused.
+    #[test]
+    fn every_answer_of_sixteen_blocks_occurs() {
+        for (kind, number) in [("sheets", 3), ("spots", 11)] {
+            let told = |vector: &Vector| match (&vector.fields[0], &vector.fields[5]) {
+                (Field::Byte(1), Field::Word(16)) => Some((vector.answer[0], vector.answer[1])),
+                _ => None,
+            };
+            let found: BTreeSet<(usize, usize)> = vectors(kind).unwrap().iter().filter_map(told).collect();
+            for due in [(0, 16), (0, 15), (0, 1), (0, 8), (number, 15), (2, 0)] {
+                assert!(found.contains(&due), "{kind} {due:?}");
+            }
+        }
+    }
+
     /// Additions have every number that they can give, and so have totals and trees per plot.
     #[test]
     fn every_number_of_stand_tables_occurs() {

@@ -1,5 +1,6 @@
 //! Vectors for sheets, written and read, and for the lister.
 
+use crate::blocks;
 use crate::vector::{answer, profile_fields, Field, Vector};
 use second::random::Random;
 use second::{cases, lister, plot, sheet, Mode, Profile};
@@ -88,28 +89,113 @@ fn random_sheets(profile: &Profile, random: &mut Random) -> Vec<Vector> {
     }
     let mut vectors = vec![write_vector(profile, &payload, random.bytes(cells))];
     for damaged in sheets {
-        let (scratch, payload) = (random.bytes(cells), random.bytes(bytes));
+        let (scratch, payload) = (scratch(profile, random), random.bytes(bytes));
         vectors.push(read_vector(profile, &damaged, scratch, payload));
     }
     vectors
 }
 
-/// Sheets of document 01's blocks 8 14 7 1 (clean), 8 14 0 0 (tied) and 9 14 7 0 (torn), L being 2; no codeword is within h of the latter two.
+/// A scratch of n bytes. D × n are drawn, as many as it had before document 02's Note 6, so that all else in the vectors is as it was.
+pub fn scratch(profile: &Profile, random: &mut Random) -> Vec<u8> {
+    let mut bytes = random.bytes(profile.depth * profile.n);
+    bytes.truncate(profile.n);
+    bytes
+}
+
+/// The sheet of these blocks.
+fn interleaved<Block: AsRef<[u8]>>(blocks: &[Block]) -> Vec<u8> {
+    let depth = blocks.len();
+    let cells = blocks.iter().map(|block| block.as_ref().len()).sum();
+    (0..cells).map(|p| blocks[p % depth].as_ref()[p / depth]).collect()
+}
+
+/// Sheets of document 01's blocks 8 14 7 1 (clean), 9 14 7 1 (one cell changed), 8 14 0 0 (tied) and 9 14 7 0 (torn), L being 2; no codeword is within
+/// h of the latter two.
 pub fn lowest_refused(mode: Mode) -> Vec<Vector> {
-    let [clean, ambiguous, unreachable] = [[8, 14, 7, 1], [8, 14, 0, 0], [9, 14, 7, 0]];
+    let [clean, changed] = [[8, 14, 7, 1], [9, 14, 7, 1]];
+    let [ambiguous, unreachable] = [[8, 14, 0, 0], [9, 14, 7, 0]];
     let rows = [
         [clean, ambiguous, unreachable],
         [unreachable, clean, ambiguous],
         [clean, clean, unreachable],
         [ambiguous, unreachable, unreachable],
         [clean; 3],
+        [changed, changed, unreachable],
+        [changed, changed, ambiguous],
+        [changed, clean, unreachable],
+        [changed, clean, changed],
     ];
     let vector = |blocks: [[u8; 4]; 3]| {
-        let cells: Vec<u8> = (0..12).map(|p| blocks[p % 3][p / 3]).collect();
         let profile = Profile::from([4, 3, 0, 2, 3]);
-        read_vector_in(mode, &profile, &cells, vec![170; 12], vec![170; 3])
+        read_vector_in(mode, &profile, &interleaved(&blocks), vec![170; 4], vec![170; 3])
     };
     rows.map(vector).into()
+}
+
+/// Sheets of blocks 9 14 7 1, each with one cell to change, with scratches of n bytes, of D × n, and of other lengths.
+pub fn scratch_lengths(mode: Mode) -> Vec<Vector> {
+    let vectors = |(depth, lengths): (usize, &[usize])| {
+        let profile = Profile::from([4, 3, 0, 2, depth]);
+        let cells = interleaved(&vec![[9, 14, 7, 1]; depth]);
+        let vector = |&length: &usize| read_vector_in(mode, &profile, &cells, vec![170; length], vec![170; depth]);
+        lengths.iter().map(vector).collect::<Vec<_>>()
+    };
+    cases::SCRATCHES.into_iter().flat_map(vectors).collect()
+}
+
+/// Changes a block of a sheet, in a way that is brought back in all sheets here: h cells, or a run that starts later and is shorter than that of the block before. The
+/// run of block 0 is its first L cells.
+fn change(mode: Mode, profile: &Profile, number: usize, cells: &mut [u8], random: &mut Random) {
+    match mode {
+        Mode::Burst => {
+            let length = profile.limit - number;
+            let start = number * (profile.n - length) / (profile.depth - 1);
+            blocks::damage(cells, start, length, random);
+        }
+        Mode::Spots => random.change(cells, profile.h()),
+    }
+}
+
+/// The random blocks of a sheet, those chosen by their number changed.
+fn changed(mode: Mode, profile: &Profile, chosen: impl Fn(usize) -> bool, random: &mut Random) -> Vec<Vec<u8>> {
+    let block = |number| {
+        let mut cells = blocks::codeword(profile, random);
+        if chosen(number) {
+            change(mode, profile, number, &mut cells, random);
+        }
+        cells
+    };
+    (0..profile.depth).map(block).collect()
+}
+
+/// The sheet of these blocks read with a scratch of this length.
+fn read_blocks(mode: Mode, profile: &Profile, blocks: &[Vec<u8>], scratch: usize, random: &mut Random) -> Vector {
+    let (scratch, payload) = (random.bytes(scratch), random.bytes(profile.depth * profile.k()));
+    read_vector_in(mode, profile, &interleaved(blocks), scratch, payload)
+}
+
+/// Sheets of sixteen blocks: all are changed; all, and the last is noise; all but the first, the first alone, and every second; all, with a scratch
+/// of D × n bytes.
+pub fn sixteen_blocks(mode: Mode, seed: u64) -> Vec<Vector> {
+    let mut random = Random::new(seed);
+    let (small, large) = (
+        Profile::from([48, 34, 9, 16, 16]),
+        Profile::from([255, 24, 254, 22, 16]),
+    );
+    let mut vectors = Vec::new();
+    for profile in [small, large] {
+        let mut blocks = changed(mode, &profile, |_| true, &mut random);
+        vectors.push(read_blocks(mode, &profile, &blocks, profile.n, &mut random));
+        blocks[15] = random.bytes(profile.n);
+        vectors.push(read_blocks(mode, &profile, &blocks, profile.n, &mut random));
+    }
+    for chosen in [|t| t != 0, |t| t == 0, |t| t % 2 == 1] {
+        let blocks = changed(mode, &small, chosen, &mut random);
+        vectors.push(read_blocks(mode, &small, &blocks, small.n, &mut random));
+    }
+    let blocks = changed(mode, &small, |_| true, &mut random);
+    vectors.push(read_blocks(mode, &small, &blocks, 16 * small.n, &mut random));
+    vectors
 }
 
 /// Refusals 1 and 2 of the reader.
@@ -148,6 +234,8 @@ pub fn sheets() -> Vec<Vector> {
     }
     vectors.extend(lowest_refused(Mode::Burst));
     vectors.extend(refused());
+    vectors.extend(scratch_lengths(Mode::Burst));
+    vectors.extend(sixteen_blocks(Mode::Burst, 203));
     vectors
 }
 

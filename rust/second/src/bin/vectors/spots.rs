@@ -168,7 +168,7 @@ fn random_sheets(profile: &Profile, random: &mut Random) -> Vec<Vector> {
         sheets.push(written);
     }
     let mut vector = |damaged: Vec<u8>| {
-        let (scratch, payload) = (random.bytes(cells), random.bytes(bytes));
+        let (scratch, payload) = (sheets::scratch(profile, random), random.bytes(bytes));
         read_vector_in(Mode::Spots, profile, &damaged, scratch, payload)
     };
     sheets.into_iter().map(&mut vector).collect()
@@ -189,13 +189,17 @@ fn sheets_read() -> Vec<Vector> {
             Mode::Spots,
             &profile,
             &input[5..],
-            vec![170; 24],
+            vec![170; 3],
             vec![170; 8],
         ));
     }
     vectors.extend(sheets::lowest_refused(Mode::Spots));
     let (bad_profiles, wrong_lengths) = sheets::refused_reads(Mode::Spots);
-    vectors.into_iter().chain(bad_profiles).chain(wrong_lengths).collect()
+    vectors.extend(bad_profiles);
+    vectors.extend(wrong_lengths);
+    vectors.extend(sheets::scratch_lengths(Mode::Spots));
+    vectors.extend(sheets::sixteen_blocks(Mode::Spots, 403));
+    vectors
 }
 
 /// Blocks with byte 0, and sheets with byte 1.
