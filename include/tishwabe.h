@@ -27,7 +27,7 @@
 extern "C" {
 #endif
 
-/* The documents' numbers, with their words for them: 1 to 10 are document 01's, 11 to 15 are document 02's. */
+/* The documents' numbers, with their words for them: 1 to 10 are document 01's, 11 to 16 are document 02's. */
 enum tishwabe_refusal {
     TISHWABE_ACCEPTED = 0,
     TISHWABE_BAD_PROFILE = 1,   /* misprint: a profile number is outside its range */
@@ -44,7 +44,8 @@ enum tishwabe_refusal {
     TISHWABE_BAD_SPAN = 12,     /* bad span: start plus length exceeds n, or length exceeds r - 1 */
     TISHWABE_SPECIES_LIST = 13, /* species list: a listed number outside 1 to 99, a repeat, or more than 16 */
     TISHWABE_TRACT_FULL = 14,   /* tract full: a payload beyond 1,000, or a cell or counter handed in above 400,000,000 */
-    TISHWABE_NO_PLOTS = 15      /* no plots: of the trees per plot only, when no plot was added */
+    TISHWABE_NO_PLOTS = 15,     /* no plots: of the trees per plot only, when no plot was added */
+    TISHWABE_SPARSE = 16        /* thin: in scratch mode, the shortest run is longer than half of r, and at most half of its cells would be changed */
 };
 
 /* Document 02's figures: what fails first in the first bad line of a tally, beside TISHWABE_BAD_TALLY. */
@@ -74,8 +75,8 @@ enum tishwabe_figure {
  * rounded down, in both cases. */
 size_t tishwabe_profile(size_t n, size_t r, size_t b, size_t limit, size_t depth, size_t *k, size_t *h);
 
-/* ---- blocks: refusals 1 and 2, 3 and 4 of the corrector and of the look, 12 and 3 of the fill, and 11 of the corrector in spot mode; their place is
- * 0 */
+/* ---- blocks: refusals 1 and 2, 3, 4 and 16 of the corrector and of the look, 12 and 3 of the fill, and 11 of the corrector in spot mode; their place
+ * is 0 */
 
 /* Writes the block of a message: k bytes in, n cells out. */
 size_t tishwabe_write_block(size_t n, size_t r, size_t b, size_t limit, size_t depth,
@@ -87,23 +88,29 @@ size_t tishwabe_check_block(size_t n, size_t r, size_t b, size_t limit, size_t d
                             const uint8_t *read, size_t read_length, /* n */
                             size_t *clean);
 
-/* Corrects a block in scratch mode: the codeword of the shortest run goes to out; *start and *length are that run, 0 and 0 for a clean block. */
+/* Corrects a block in scratch mode: the codeword of the shortest run goes to out; *start and *length are that run, 0 and 0 for a clean block.
+ * Refusals 1, 2, 3, 4 and 16, in this order: 16 where the shortest run has more than r / 2 cells (2 * length > r, odd r too) and at most half of them
+ * would be changed (exactly half is refused); no longer run is taken in its place.
+ * Earlier versions accepted such a run, and so did tishwabe_look_block, tishwabe_read_sheet and tishwabe_list_input, which have the same rule now: a caller
+ * of any of them has to take 16 for a refusal like 3 and 4. With a limit of up to h it never comes, nor with r up to 4. A block that
+ * is refused by 16 is what tishwabe_correct_spots corrects, to the codeword of that run; tishwabe_fill_block fills the run where it is named. */
 size_t tishwabe_correct_block(size_t n, size_t r, size_t b, size_t limit, size_t depth,
                               const uint8_t *read, size_t read_length, /* n */
                               uint8_t *out, size_t out_length,         /* n */
                               size_t *start, size_t *length);
 
 /* Looks at a block in scratch mode, and writes no cell: the answer, *start and *length are those of tishwabe_correct_block with an out of n bytes.
- * Refusals 1 to 4, of which 2 is for the length of read. Where it is accepted, tishwabe_fill_block with that start and length then leaves in out what
- * tishwabe_correct_block would. */
+ * Refusals 1 to 4 and 16, of which 2 is for the length of read; after 16, as after the others, *start and *length are 0. Where it is accepted,
+ * tishwabe_fill_block with that start and length then leaves in out what tishwabe_correct_block would. */
 size_t tishwabe_look_block(size_t n, size_t r, size_t b, size_t limit, size_t depth,
                            const uint8_t *read, size_t read_length, /* n */
                            size_t *start, size_t *length);
 
 /* Fills a run of a block: the codeword that agrees with the read cells outside the length cells from cell start on goes to out, all n cells of it;
  * there is at most one. Any run of up to r - 1 cells may be named, cell n with length 0 too: limit must be in its range and has no other effect, and
- * on a tied block the run named decides. Refusals 1, 2, 12 and 3, in this order: 12 where start plus length exceeds n, as whole numbers that do not
- * wrap, or length exceeds r - 1; 3 where this one run reaches no codeword. */
+ * on a tied block the run named decides. How many of its cells would be changed has no effect either: there is no 16. Refusals 1, 2, 12 and 3, in
+ * this order: 12 where start plus length exceeds n, as whole numbers that do not wrap, or length exceeds r - 1; 3 where this one run reaches no
+ * codeword. */
 size_t tishwabe_fill_block(size_t n, size_t r, size_t b, size_t limit, size_t depth,
                            const uint8_t *read, size_t read_length, /* n */
                            size_t start, size_t length,             /* the run */
@@ -125,9 +132,10 @@ size_t tishwabe_write_sheet(size_t n, size_t r, size_t b, size_t limit, size_t d
                             uint8_t *sheet, size_t sheet_length);          /* D * n */
 
 /* Reads a sheet in scratch mode: every block is judged before a byte of the payload is written. *changed is the number of blocks changed.
- * Refusals 1 to 4; *place is then the number of the lowest block that is refused by 3 or 4, and else 0. The buffer scratch is all zero after
- * every result but refusals 1 and 2, which leave it as it was.
- * Earlier versions took a scratch of D * n bytes. A caller that still lends D * n, with D above 1, is told so by refusal 2; nothing else changed. */
+ * Refusals 1 to 4 and 16; *place is then the number of the lowest block that is refused by 3, 4 or 16, and else 0. The buffer scratch is all zero
+ * after every result but refusals 1 and 2, which leave it as it was.
+ * Earlier versions took a scratch of D * n bytes. A caller that still lends D * n, with D above 1, is told so by refusal 2. They accepted a sheet with a
+ * block that is refused by 16 now; a scratch of up to D * h cells, limit being at least h, is read as ever. */
 size_t tishwabe_read_sheet(size_t n, size_t r, size_t b, size_t limit, size_t depth,
                            const uint8_t *sheet, size_t sheet_length,   /* D * n */
                            uint8_t *scratch, size_t scratch_length,     /* n */
@@ -203,9 +211,9 @@ size_t tishwabe_list(const uint8_t *payload, size_t payload_length, size_t chang
 size_t tishwabe_list_refusal(uint8_t number, size_t place, uint8_t *text, size_t text_length);
 
 /* The whole answer of the plot lister: the text for its standard input, the bytes n, r, b, L and D and then the sheet's D * n cells. The
- * sheet is read in scratch mode, and the text is that of its payload with the number of blocks changed, or that of the refusal; fewer than
- * five bytes are refusal 1, another number of cells refusal 2. The scratch and the payload buffer that it lends the reader are on
- * the stack, 4,303 bytes. */
+ * sheet is read in scratch mode, and the text is that of its payload with the number of blocks changed, or that of the refusal, such as
+ * `refused,16,3` where block 3 is the lowest that is refused, and thin; fewer than five bytes are refusal 1, another number of cells refusal 2. The
+ * scratch and the payload buffer that it lends the reader are on the stack, 4,303 bytes. */
 size_t tishwabe_list_input(const uint8_t *input, size_t input_length, uint8_t *text, size_t text_length);
 
 #ifdef __cplusplus

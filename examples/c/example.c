@@ -1,6 +1,7 @@
 /* Writes a sheet with two plots, a third being refused for the class in one of its lines; shows what the check says of tallies with one bad value;
  * damages the sheet, reads it back, asks for a plot, and lists the sheet as the plot lister does; then the same sheet with mould is read in spot
- * mode; then a block is looked at before anything is written, and filled within runs that are named; then a stand table is made of two payloads. */
+ * mode; then a block is looked at before anything is written, and filled within runs that are named; then a long run of which few cells are wrong is
+ * refused; then a stand table is made of two payloads. */
 #include <inttypes.h>
 #include <stdio.h>
 #include <string.h>
@@ -10,6 +11,9 @@
 /* 20 cells in a block, 8 of them check cells, starting power 1, runs of up to 4 cells, 3 blocks in a sheet. */
 #define PROFILE N, R, 1, 4, D
 enum { N = 20, R = 8, K = N - R, D = 3 };
+
+/* The same with runs of up to 7 cells, the most that 8 check cells allow. */
+#define LONG_RUNS N, R, 1, R - 1, D
 
 /* Ends a printed answer: where a line is at fault, with the line and what fails first in it. */
 static void print_fault(size_t figure, size_t line) {
@@ -149,6 +153,29 @@ static void look_and_fill(void) {
     fill(block, 8, 6, written); /* a spot outside the run */
 }
 
+/* A run of more than R / 2 cells is corrected if more than half of it is wrong. If not, it may be filled where it is named, and spot mode
+ * corrects the block to the same codeword. */
+static void look_at_sparse_run(void) {
+    static const uint8_t message[K] = {1, 2, 3, 4, 5, 6, 7, 8, 9, 10, 11, 12};
+    uint8_t written[N], block[N], codeword[N];
+    size_t number, start, length, count, lowest;
+    tishwabe_write_block(LONG_RUNS, message, K, written, N);
+    memcpy(block, written, N);
+    block[9] ^= 1;
+    block[11] ^= 85;
+    block[13] ^= 255;
+    number = tishwabe_look_block(LONG_RUNS, block, N, &start, &length);
+    printf("look, 3 of 5 cells wrong: answer %zu, start %zu, length %zu\n", number, start, length);
+    block[11] = written[11];
+    number = tishwabe_look_block(LONG_RUNS, block, N, &start, &length);
+    printf("look, 2 of 5 cells wrong: answer %zu, start %zu, length %zu\n", number, start, length);
+    if (number == TISHWABE_SPARSE) {
+        fill(block, 9, 5, written);
+        number = tishwabe_correct_spots(LONG_RUNS, block, N, codeword, N, &count, &lowest);
+        printf("spot mode: answer %zu, %zu cells changed, the lowest is cell %zu\n", number, count, lowest);
+    }
+}
+
 /* What the caller keeps of a stand table. */
 struct stand {
     const uint8_t *species;
@@ -251,6 +278,7 @@ int main(void) {
     read_with_mould(sheet);
 
     look_and_fill();
+    look_at_sparse_run();
     stand_table(payload);
     return 0;
 }

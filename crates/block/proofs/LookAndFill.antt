@@ -27,10 +27,10 @@ use Rattle.block.specs.declared.Verdict.{Verdict}
 use Rattle.block.specs.declared.Verdict.the-variants as verdicts
 use Rattle.block.specs.declared.Filled.{Filled}
 use Rattle.block.specs.declared.Filled.the-variants as fills
-use Rattle.block.proofs.NumberLaws.{number-3, number-4, caseOf, verdict-of, verdict-0, verdict-late, no-values}
+use Rattle.block.proofs.NumberLaws.{number-3, number-4, number-16, caseOf, verdict-0, verdict-late, no-values}
 use Rattle.block.proofs.Shortest.{empty-run}
 use Rattle.block.proofs.Entries.{same-fits, correct-fits, correct-rest, look-one, look-two, look-rest, error-rest}
-use Rattle.block.proofs.Verdicts.{verdict-none, verdict-two, verdict-one}
+use Rattle.block.proofs.Verdicts.{verdict-none, verdict-two, verdict-sparse, verdict-one}
 use Rattle.block.proofs.Answers.{block-kept}
 use Rattle.block.proofs.Promises.{two-lengths}
 use Rattle.block.proofs.Filling.{span-iff, fill-one, fill-two, fill-span, fill-rest, by-shifted}
@@ -47,6 +47,7 @@ look-iff p y v h =
     let e : lookAnswer p y ≡ verdict p y = look-is p y v (h .count) in
     let none = verdict-none p y v h in
     let two = verdict-two p y v h in
+    let sparse = verdict-sparse p y v h in
     record {
       none = (λ q. none .0 (sym e ∙ number-3 (lookAnswer p y) q), λ n. ap verdictNumber (e ∙ none .1 n));
       two = (λ q. two .0 (sym e ∙ number-4 (lookAnswer p y) q), λ n. ap verdictNumber (e ∙ two .1 n));
@@ -54,11 +55,12 @@ look-iff p y v h =
         λ q.
             let w : verdict p y ≡ verdicts.Corrected s f =
             verdict-0 p y (ap verdictNumber (sym e) ∙ q .0) ∙ ap₂ verdicts.Corrected (ap verdictStart (sym e) ∙ q .1) (ap verdictLength (sym e) ∙ q .2) in
-            (corrected p y, verdict-one p y s f (corrected p y) v h .0 (w, refl)),
+            (corrected p y, verdict-one p y v h s f (corrected p y) .0 (w, refl)),
         λ k.
-            let w : lookAnswer p y ≡ verdicts.Corrected s f = e ∙ verdict-one p y s f (k .0) v h .1 (k .1) .0 in
+            let w : lookAnswer p y ≡ verdicts.Corrected s f = e ∙ verdict-one p y v h s f (k .0) .1 (k .1) .0 in
             (ap verdictNumber w, ap verdictStart w, ap verdictLength w),
       );
+      sparse = (λ q. sparse .0 (sym e ∙ number-16 (lookAnswer p y) q), λ n. ap verdictNumber (e ∙ sparse .1 n));
     }
 
 module _ (p : Profile) (y : List ℕ) where
@@ -66,14 +68,14 @@ module _ (p : Profile) (y : List ℕ) where
   unfolding lookAnswer
   of-burst =
       refusing-of p (eqb (length y) (p .n)) verdicts.BadProfile verdicts.WrongLength (verdict p y) (λ (w : Verdict). caseOf w ≢ 2) (λ q. omega arith) (λ q. omega arith)
-      (verdict-of (λ (w : Verdict). caseOf w ≢ 2) (λ q. omega arith) (λ q. omega arith) (λ s f q. omega arith) p y)
+      (verdict-late p y .burst)
 
   pub look-refusals : LookRefusals p y
   unfolding lookAnswer
   look-refusals = record {
     early =
         early-of p (eqb (length y) (p .n)) (length y ≡ p .n) (eqb-true (length y) (p .n), eq-eqb (length y) (p .n)) verdictNumber verdicts.BadProfile verdicts.WrongLength (verdict p y) refl refl
-        (verdict-late p y .0) (verdict-late p y .1);
+        (verdict-late p y .not-1) (verdict-late p y .not-2);
     place = refl;
     run = λ n. let z = no-values (lookAnswer p y) n in (z .start, z .size);
     no-cells = (λ q. of-burst (ap caseOf q), λ t j q. of-burst (ap caseOf q));

@@ -1,6 +1,6 @@
 -- What the search's state says is the verdict; and the shifted remainder in a register, by steps back from the remainder or in two parts.
 use mathlib.Core.Path.{_≡_, sym, ap, ap₂, _∙_}
-use mathlib.Core.Bool.{true, false}
+use mathlib.Core.Bool.{Bool, true, false}
 use mathlib.Core.List.{List}
 use Prim.Native.Nat.{ℕ, _-_, _≤_, _<_}
 use native.Mathlib.Omega.{arith}
@@ -9,8 +9,9 @@ use lib.ListN.{length, take, drop, replicate, length-drop}
 use lib.Seq.{length-take-le, take-all}
 use mathlib.Core.Logic.{_≢_}
 use borrow.Author.Tests.{lt-ltb, le-ltb, eq-eqb, ne-eqb}
+use Rattle.lists.specs.Choice.{pick}
 use Rattle.code.specs.Run.{ZeroFrom, backSteps, shiftedRemainder}
-use Rattle.code.specs.Code.{generator, remainder}
+use Rattle.code.specs.Code.{generator, remainder, weight}
 use Rattle.code.specs.Search.{extent}
 use Rattle.code.proofs.Generator.{generator-length}
 use Rattle.code.proofs.Division.{remainder-length}
@@ -21,17 +22,17 @@ use Rattle.register.specs.Register.{backGenerator, feedsBack}
 use Rattle.register.proofs.Backward.{divided-back}
 use Rattle.lists.specs.Bytes.{Bytes}
 use Rattle.words.specs.Cells.{padTo}
-use Rattle.words.proofs.Pad.{take-pad, pad-sum}
+use Rattle.words.proofs.Pad.{take-pad, pad-sum, weight-pad}
 use Rattle.words.proofs.LastCell.{extent-pad}
 use Rattle.register.specs.Words.{cells}
 use Rattle.register.specs.declared.Register.{Register}
 use Rattle.register.proofs.Cells.{cells-length}
-use Rattle.profile.specs.Profile.{InRange}
-use Rattle.block.specs.Block.{decided, judged}
+use Rattle.profile.specs.Profile.{InRange, isSparse}
+use Rattle.block.specs.Block.{runVerdict, decided, judged}
 use Rattle.block.specs.Found.{bestOf, Searched, JudgedFrom}
 use Rattle.profile.specs.declared.Profile.{Profile}
-use Rattle.block.specs.declared.Found.{Found}
-use Rattle.block.specs.declared.Verdict.the-variants.{Uncorrectable, Ambiguous, Corrected}
+use Rattle.block.specs.declared.search.Found.{Found}
+use Rattle.block.specs.declared.Verdict.the-variants.{Uncorrectable, Ambiguous, Corrected, Sparse}
 use Rattle.block.proofs.Steps.{low-cells-of}
 
 -- ---- the verdict, from a register of which the lowest r cells are the remainder
@@ -58,9 +59,9 @@ module _ (p : Profile) (v : InRange p) (rest : Register) (z : ZeroFrom (p .r) (c
   judged-clean t = record { verdict = rw (← same-extent, t); error = unshifted }
 
   module _ (wrong : eqb (extent C) 0 ≡ false) (k : Found) (s : Searched p R k) where
-    says : judged p R ≡ decided (p .limit) (bestOf k)
+    says : judged p R ≡ decided p R (bestOf k)
     unfolding judged
-    says = rw (← same-extent, wrong) (ap (decided (p .limit)) (sym (s .best)))
+    says = rw (← same-extent, wrong) (ap (decided p R) (sym (s .best)))
 
     pub judged-long : p .limit < k .size → JudgedFrom p R (record { verdict = Uncorrectable; error = rest })
     unfolding decided
@@ -70,9 +71,25 @@ module _ (p : Profile) (v : InRange p) (rest : Register) (z : ZeroFrom (p .r) (c
     unfolding decided
     judged-twice h a = record { verdict = sym (says ∙ rw (le-ltb (p .limit) (k .size) h, eq-eqb (k .again) 1 a)); error = unshifted }
 
-    pub judged-once : k .size ≤ p .limit → k .again ≢ 1 → JudgedFrom p R (record { verdict = Corrected (k .start) (k .size); error = k .error })
-    unfolding decided
-    judged-once h a = record { verdict = sym (says ∙ rw (le-ltb (p .limit) (k .size) h, ne-eqb (k .again) 1 a)); error = s .error }
+    -- the run that was found, with as many cells that are not zero as the register at its start has
+    module _ (h : k .size ≤ p .limit) (a : k .again ≢ 1) (t : Bool) (e : isSparse p (k .size) (weight (cells (k .error))) ≡ t) where
+      same-weight : weight (cells (k .error)) ≡ weight (backSteps (k .start) (generator (p .b) (p .r)) R)
+      same-weight =
+          let lR : length R ≡ p .r = length-take-le (p .r) C (omega (arith, v .r-most, cells-length rest)) in
+          let S : List ℕ = backSteps (k .start) (generator (p .b) (p .r)) R in
+          let lS : length S ≡ p .r = backSteps-length (k .start) (p .r) (generator (p .b) (p .r)) R (generator-length (p .b) (p .r)) lR in
+          ap weight (s .error) ∙ weight-pad 64 S (omega (arith, v .r-most))
+
+      ruled-so : judged p R ≡ pick t Sparse (Corrected (k .start) (k .size))
+      unfolding decided runVerdict
+      ruled-so = says ∙ rw (le-ltb (p .limit) (k .size) h, ne-eqb (k .again) 1 a, ← same-weight, e)
+
+    pub judged-sparse : k .size ≤ p .limit → k .again ≢ 1 → isSparse p (k .size) (weight (cells (k .error))) ≡ true → JudgedFrom p R (record { verdict = Sparse; error = rest })
+    judged-sparse h a e = record { verdict = sym (ruled-so h a true e); error = unshifted }
+
+    pub judged-once : k .size ≤ p .limit → k .again ≢ 1 → isSparse p (k .size) (weight (cells (k .error))) ≡ false
+        → JudgedFrom p R (record { verdict = Corrected (k .start) (k .size); error = k .error })
+    judged-once h a e = record { verdict = sym (ruled-so h a false e); error = s .error }
 
 -- ---- a register E of which the lowest r cells are the shifted remainder at s
 

@@ -4,32 +4,35 @@ use mathlib.Core.Path.{_≡_, refl, sym, ap, ap₂, subst, _∙_}
 use mathlib.Core.Logic.{_↔_, _≢_, ⊎-elim}
 use mathlib.Core.Bool.{Bool, true, false}
 use mathlib.Core.List.{List}
-use Prim.Native.Nat.{ℕ, _<_}
+use Prim.Native.Nat.{ℕ, _≤_, _<_}
 use native.Mathlib.Omega.{arith}
 use lib.Dec.{eqb}
 use lib.ListN.{length, drop}
 use borrow.Author.Tests.{eq-eqb, eqb-true}
 use Rattle.lists.specs.Choice.{pick, both}
 use Rattle.lists.proofs.Test.{true-or-false, both-true, pick-of}
-use Rattle.code.specs.Code.{syndrome}
+use Rattle.code.specs.Code.{syndrome, distance}
+use Rattle.code.specs.Run.{changedIn}
 use Rattle.code.proofs.Division.{codeword-syndromes, syndromes-codeword}
+use Rattle.code.proofs.Changed.{changed-inside, one-cell}
 use Rattle.profile.specs.Profile.{InRange, messageLength}
 use Rattle.block.specs.Block.{encode, isClean, verdict, corrected, filled, writeFits, writeAnswer, writeLeaves, checkAnswer, correctFits, correctAnswer, correctLeaves}
 use Rattle.block.specs.Numbers.{verdictNumber, verdictStart, verdictLength, writtenNumber, checkedNumber, checkedClean}
-use Rattle.block.specs.Runs.{Cells, Word, OneReached}
-use Rattle.block.specs.Promises.{WritesCodeword, CleanIff, LentBlock, UncorrectableIff, AmbiguousIff, Corrects, CorrectedIff, HalfPromise, DepthFree, WriteRefusals, CheckRefusals, CorrectRefusals, BlockRefusals}
+use Rattle.block.specs.Runs.{Cells, Word, OneAccepted}
+use Rattle.block.specs.Promises.{WritesCodeword, CleanIff, LentBlock, UncorrectableIff, AmbiguousIff, Corrects, CorrectedIff, SparseIff, ShortExempt, ThreeExempt, CountsAll, HalfPromise, DepthFree, WriteRefusals, CheckRefusals, CorrectRefusals, BlockRefusals}
 use Rattle.profile.specs.declared.Profile.{Profile}
 use Rattle.block.specs.declared.Verdict.{Verdict}
 use Rattle.block.specs.declared.Verdict.the-variants as verdicts
 use Rattle.block.specs.declared.Written.the-variants as writes
 use Rattle.block.specs.declared.Checked.{Checked}
 use Rattle.block.specs.declared.Checked.the-variants as checks
+use Rattle.profile.proofs.Sparse.{short-exempt}
 use Rattle.profile.proofs.Refusing.{refusing-of, same-refusing, early-of, kept-of}
-use Rattle.block.proofs.NumberLaws.{number-3, number-4, caseOf, verdict-of, verdict-0, verdict-late, no-values, not-called}
+use Rattle.block.proofs.NumberLaws.{number-3, number-4, number-16, caseOf, verdict-0, verdict-late, no-values, not-called}
 use Rattle.block.proofs.Shortest.{clean-word, word-clean}
 use Rattle.block.proofs.Entries.{same-fits}
 use Rattle.block.proofs.Encoding.{encode-message, encode-codeword, same-message}
-use Rattle.block.proofs.Verdicts.{verdict-none, verdict-two, verdict-one, verdict-half, same-verdict, same-filled}
+use Rattle.block.proofs.Verdicts.{verdict-none, verdict-two, verdict-sparse, verdict-one, verdict-half, same-verdict, same-filled}
 use Rattle.block.proofs.Answers.{write-accepted, block-written, block-checked, block-answer, block-leaves, block-kept}
 
 -- ---- the writer
@@ -99,15 +102,15 @@ module _ (p : Profile) (y out : List ℕ) (v : InRange p) (h : LentBlock p y out
   leaves-word : (s f : ℕ) → verdict p y ≡ verdicts.Corrected s f → correctLeaves p y out ≡ corrected p y
   leaves-word s f q = block-leaves p v y (h .cells .count) out (h .second) (ap verdictNumber q)
 
-  corrects-there : (s f : ℕ) (c : List ℕ) → Corrects p y out s f c → OneReached p y s f c
+  corrects-there : (s f : ℕ) (c : List ℕ) → Corrects p y out s f c → OneAccepted p y s f c
   corrects-there s f c k =
       let e : answer ≡ verdict p y = is-verdict in
       let w : verdict p y ≡ verdicts.Corrected s f = verdict-0 p y (ap verdictNumber (sym e) ∙ k .accepted) ∙ ap₂ verdicts.Corrected (ap verdictStart (sym e) ∙ k .start) (ap verdictLength (sym e) ∙ k .size) in
-      verdict-one p y s f c v (h .cells) .0 (w, sym (leaves-word s f w) ∙ k .leaves)
+      verdict-one p y v (h .cells) s f c .0 (w, sym (leaves-word s f w) ∙ k .leaves)
 
-  corrects-back : (s f : ℕ) (c : List ℕ) → OneReached p y s f c → Corrects p y out s f c
+  corrects-back : (s f : ℕ) (c : List ℕ) → OneAccepted p y s f c → Corrects p y out s f c
   corrects-back s f c o =
-      let q = verdict-one p y s f c v (h .cells) .1 o in
+      let q = verdict-one p y v (h .cells) s f c .1 o in
       let a : answer ≡ verdicts.Corrected s f = is-verdict ∙ q .0 in
       record { accepted = ap verdictNumber a; start = ap verdictStart a; size = ap verdictLength a; leaves = leaves-word s f (q .0) ∙ q .1 }
 
@@ -125,6 +128,26 @@ ambiguous-iff p y out v h =
 
 pub corrected-iff : CorrectedIff
 corrected-iff p y out s f c v h = (corrects-there p y out v h s f c, corrects-back p y out v h s f c)
+
+pub sparse-iff : SparseIff
+sparse-iff p y out v h =
+    let e = is-verdict p y out v h in
+    let k = verdict-sparse p y v (h .cells) in
+    (λ q. k .0 (sym e ∙ number-16 (correctAnswer p y out) q), λ n. ap verdictNumber (e ∙ k .1 n))
+
+pub short-exempts : ShortExempt
+short-exempts p y s f c = short-exempt p f (changedIn s f y c)
+
+pub counts-all : CountsAll
+counts-all p y s f c h k = changed-inside s f y c (k .codeword .cells ∙ sym (h .count)) (λ i l o. k .agree i (omega (arith, h .count)) o)
+
+-- with at most one changed cell a run of one cell would do
+pub three-exempts : ThreeExempt
+three-exempts p y s f c v h o l z =
+    let q : changedIn s f y c ≡ distance y c = counts-all p y s f c h (o .reached) in
+    let k = one-cell y c (o .reached .codeword .cells ∙ sym (h .count)) (omega (arith, h .count, v .n-least)) (omega (arith, z .few)) in
+    let m : f ≤ 1 = o .least (k .0) 1 c (record { run = omega (arith, k .1, h .count); codeword = o .reached .codeword; agree = λ i j u. k .2 i (omega (arith, h .count)) u }) in
+    omega (arith, z .long, v .r-least)
 
 pub half-promise : HalfPromise
 half-promise p y out s f c v h l m k =
@@ -187,14 +210,14 @@ module _ (p : Profile) (y out : List ℕ) where
   unfolding correctAnswer
   of-burst =
       refusing-of p (correctFits p y out) verdicts.BadProfile verdicts.WrongLength (verdict p y) (λ (w : Verdict). caseOf w ≢ 2) (λ q. omega arith) (λ q. omega arith)
-      (verdict-of (λ (w : Verdict). caseOf w ≢ 2) (λ q. omega arith) (λ q. omega arith) (λ s f q. omega arith) p y)
+      (verdict-late p y .burst)
 
   correct-refusals : CorrectRefusals p y out
   unfolding correctAnswer correctFits
   correct-refusals = record {
     early =
         early-of p (correctFits p y out) _ (two-lengths (length y) (length out) (p .n) (p .n)) verdictNumber verdicts.BadProfile verdicts.WrongLength (verdict p y) refl refl
-        (verdict-late p y .0) (verdict-late p y .1);
+        (verdict-late p y .not-1) (verdict-late p y .not-2);
     place = refl;
     kept = block-kept p y out;
     run = λ n. let z = no-values (correctAnswer p y out) n in (z .start, z .size);

@@ -1,30 +1,32 @@
 -- What the search says of runs. A run shorter than r reaches a codeword exactly if it is at least as long as the extent of its shifted
 -- remainder, and then one only; two starts of the least length reach different codewords, since a common one would lie within a shorter run.
-use mathlib.Core.Path.{_≡_, refl, sym, _∙_, subst}
+use mathlib.Core.Path.{_≡_, refl, sym, ap, _∙_, subst}
 use mathlib.Core.Logic.{_↔_, _≢_, inl, inr, ⊎-elim}
 use mathlib.Core.Bool.{true, false}
 use mathlib.Core.List.{List, []}
 use Prim.Native.Nat.{ℕ, zero, suc, _+_, _≤_, _<_}
-use native.Mathlib.Nat.{eq-or-lt-of-le}
+use native.Mathlib.Nat.{eq-or-lt-of-le, min-le-left}
 use native.Mathlib.Omega.{arith}
-use lib.ListN.{length, take}
+use lib.ListN.{length, take, length-take}
 use lib.Seq.{ext-getD}
 use borrow.Author.Tests.{eqb-true, eq-eqb}
+use Rattle.lists.specs.Choice.{pick}
 use Rattle.lists.proofs.Test.{lt-or-ge, true-false}
 use Rattle.code.specs.Poly.{eval}
 use Rattle.code.specs.Code.{generator, remainder}
-use Rattle.code.specs.Run.{Reaches, ZeroFrom, shiftedRemainder, addedAt}
+use Rattle.code.specs.Run.{Reaches, ZeroFrom, shiftedRemainder, addedAt, changedIn}
 use Rattle.code.specs.Search.{Best, extent, extents, scanned}
 use Rattle.code.proofs.Poly.{eval-same}
 use Rattle.code.proofs.Distance.{zero-at}
 use Rattle.code.proofs.Division.{remainder-syndrome, remainder-zero, codeword-syndromes, syndromes-codeword}
 use Rattle.code.proofs.Search.{extent-zero, extent-least, Scan, scan-all}
+use Rattle.code.proofs.Changed.{changed-added, weight-front}
 use Rattle.code.proofs.Theorems.{run-reaches}
-use Rattle.profile.specs.Profile.{InRange}
-use Rattle.block.specs.Block.{isClean, decided, judged, verdict}
+use Rattle.profile.specs.Profile.{InRange, isSparse}
+use Rattle.block.specs.Block.{isClean, runVerdict, decided, judged, verdict}
 use Rattle.block.specs.Runs.{Cells, Word, Reached, Least}
 use Rattle.profile.specs.declared.Profile.{Profile}
-use Rattle.block.specs.declared.Verdict.the-variants.{Corrected}
+use Rattle.block.specs.declared.Verdict.the-variants.{Corrected, Sparse}
 
 -- a run of no cells reaches the read cells alone
 pub empty-run : (n r b : ℕ) (y : List ℕ) (s : ℕ) (c : List ℕ) → length y ≡ n → Reaches n r b y s 0 c → c ≡ y
@@ -70,8 +72,11 @@ module _ (p : Profile) (y : List ℕ) (v : InRange p) (h : Cells p y) where
   exact : (s f : ℕ) (c : List ℕ) → f < p .r → s + f ≤ p .n → Reached p y s f c ↔ (ZeroFrom f (R s) × (c ≡ word s f))
   exact s f c lf run = run-reaches (p .n) (p .r) (p .b) y s f c (v .r-below) (v .n-most) (h .count) (h .bytes) (omega arith) run
 
+  pub reach-zero : (s f : ℕ) (c : List ℕ) → f < p .r → Reached p y s f c → ZeroFrom f (R s)
+  reach-zero s f c l k = exact s f c l (k .run) .0 k .0
+
   pub reach-extent : (s f : ℕ) (c : List ℕ) → f < p .r → Reached p y s f c → e s ≤ f
-  reach-extent s f c l k = rw (e-is s) (extent-least (R s) f (exact s f c l (k .run) .0 k .0))
+  reach-extent s f c l k = rw (e-is s) (extent-least (R s) f (reach-zero s f c l k))
 
   pub reach-word : (s f : ℕ) (c : List ℕ) → f < p .r → Reached p y s f c → c ≡ word s f
   reach-word s f c l k = exact s f c l (k .run) .0 k .1
@@ -79,6 +84,18 @@ module _ (p : Profile) (y : List ℕ) (v : InRange p) (h : Cells p y) where
   pub extent-reach : (s f : ℕ) → f < p .r → s + f ≤ p .n → e s ≤ f → Reached p y s f (word s f)
   extent-reach s f l run m =
       exact s f (word s f) l run .1 ((λ k q. extent-zero (R s) k (let u : extent (R s) ≤ f = rw (e-is s) at m in omega arith)), refl)
+
+  -- ---- the rule on the run that was found
+
+  -- the cells of the shifted remainder that are not zero are those that its codeword changes
+  pub ruled-by : (s f : ℕ) (c : List ℕ) → f < p .r → Reached p y s f c → runVerdict p first s f ≡ pick (isSparse p f (changedIn s f y (word s f))) Sparse (Corrected s f)
+  unfolding runVerdict shiftedRemainder
+  ruled-by s f c l k =
+      ap (λ (w : ℕ). pick (isSparse p f w) Sparse (Corrected s f))
+      (weight-front f (R s) (reach-zero s f c l k) ∙ sym (changed-added s f y (take f (R s)) (few f (R s)) (omega (arith, k .run, h .count))))
+    where
+      few : (f : ℕ) (l : List ℕ) → length (take f l) ≤ f
+      few f l = simp length-take (omega (arith, min-le-left f (length l)))
 
   -- ---- clean
 
@@ -104,7 +121,7 @@ module _ (p : Profile) (y : List ℕ) (v : InRange p) (h : Cells p y) where
   -- ---- not clean
 
   module _ (wrong : isClean (p .b) (p .r) y ≡ false) where
-    pub wrong-verdict : verdict p y ≡ decided (p .limit) best
+    pub wrong-verdict : verdict p y ≡ decided p first best
     unfolding isClean verdict judged
     wrong-verdict = rw wrong
 

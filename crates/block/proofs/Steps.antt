@@ -31,7 +31,7 @@ use Rattle.words.proofs.Pad.{pad-length, pad-is}
 use Rattle.words.proofs.LastCell.{extent-pad}
 use Rattle.block.specs.Found.{bestOf, improvedBy, Searching}
 use Rattle.profile.specs.declared.Profile.{Profile}
-use Rattle.block.specs.declared.Found.{Found}
+use Rattle.block.specs.declared.search.Found.{Found}
 
 -- ---- one start
 

@@ -38,7 +38,7 @@ module _ (p : Profile) (y : List ℕ) (v : InRange p) (h : Cells p y) where
     f = verdictLength (verdict p y)
 
     run-of : OneReached p y s f (corrected p y)
-    run-of = verdict-one p y s f (corrected p y) v h .0 (verdict-0 p y a, refl)
+    run-of = verdict-one p y v h s f (corrected p y) .0 (verdict-0 p y a, refl) .0
 
     short : f < p .r
     short = omega (arith, run-of .within, v .limit-below)

@@ -1,4 +1,4 @@
--- What each entry on a block answers and leaves in its buffers, as equations that compute (clauses B4 to B10, E1 to E5; document 02, Note 3). Refusal 1
+-- What each entry on a block answers and leaves in its buffers, as equations that compute (clauses B4 to B10, E1 to E5; document 02, Notes 3 and 7). Refusal 1
 -- goes before 2, and 2 before the rest. The verdict reads the cells and n, r, b, L only, and a fill not even L.
 use mathlib.Core.Bool.{Bool}
 use mathlib.Core.List.{List, [], _++_}
@@ -6,11 +6,11 @@ use Prim.Native.Nat.{ℕ, _+_}
 use lib.Dec.{eqb, ltb, leb}
 use lib.ListN.{length, take, replicate}
 use Rattle.lists.specs.Choice.{pick, both}
-use Rattle.code.specs.Code.{generator, remainder}
-use Rattle.code.specs.Run.{shiftedRemainder, addedAt}
+use Rattle.code.specs.Code.{generator, remainder, weight}
+use Rattle.code.specs.Run.{backSteps, shiftedRemainder, addedAt}
 use Rattle.code.specs.Search.{Best, extent, extents, scanned}
 use Rattle.words.specs.Cells.{padTo}
-use Rattle.profile.specs.Profile.{messageLength}
+use Rattle.profile.specs.Profile.{messageLength, isSparse}
 use Rattle.profile.specs.Refusals.{refusing}
 use Rattle.block.specs.Numbers.{verdictStart}
 use Rattle.profile.specs.declared.Profile.{Profile}
@@ -60,17 +60,22 @@ checkAnswer p y =
 
 -- ---- correcting
 
--- what the search found, as a verdict
-unfoldable pub decided : ℕ → Best → Verdict
-decided limit k = pick (ltb limit (k .size)) verdicts.Uncorrectable (pick (k .again) verdicts.Ambiguous (verdicts.Corrected (k .start) (k .size)))
+-- the run (s, f) that was found in a block of which R is the remainder: refused where it is thin, and else the result. Cells of the shifted remainder
+-- at s that are not zero are those that the run's codeword changes
+unfoldable pub runVerdict : Profile → List ℕ → ℕ → ℕ → Verdict
+runVerdict p R s f = pick (isSparse p f (weight (backSteps s (generator (p .b) (p .r)) R))) verdicts.Sparse (verdicts.Corrected s f)
+
+-- what the search found, as a verdict: torn, tied, or the run
+unfoldable pub decided : Profile → List ℕ → Best → Verdict
+decided p R k = pick (ltb (p .limit) (k .size)) verdicts.Uncorrectable (pick (k .again) verdicts.Ambiguous (runVerdict p R (k .start) (k .size)))
 
 -- the verdict on a block of which R is the remainder
 unfoldable pub judged : Profile → List ℕ → Verdict
 judged p R =
     pick (eqb (extent R) 0) (verdicts.Corrected 0 0)
-    (decided (p .limit) (scanned (extents (generator (p .b) (p .r)) R) (p .n) (p .limit) (p .n)))
+    (decided p R (scanned (extents (generator (p .b) (p .r)) R) (p .n) (p .limit) (p .n)))
 
--- the verdict on the n cells y: torn, tied or mended, with "the result s and f"
+-- the verdict on the n cells y: torn, tied, thin or mended, with "the result s and f"
 unfoldable pub verdict : Profile → List ℕ → Verdict
 verdict p y = judged p (remainder (p .r) (generator (p .b) (p .r)) y)
 
@@ -87,6 +92,7 @@ filled p y out verdicts.Uncorrectable = out
 filled p y out verdicts.Ambiguous = out
 filled p y out verdicts.TooManyErrors = out
 filled p y out (verdicts.CorrectedCells count lowest) = out
+filled p y out verdicts.Sparse = out
 
 -- the codeword of a corrected block, "its mended cells"
 unfoldable pub corrected : Profile → List ℕ → List ℕ

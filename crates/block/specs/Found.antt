@@ -14,7 +14,7 @@ use Rattle.words.specs.Cells.{padTo}
 use Rattle.register.specs.Register.{onTop}
 use Rattle.register.specs.declared.Register.{Register}
 use Rattle.profile.specs.declared.Profile.{Profile}
-use Rattle.block.specs.declared.Found.{Found}
+use Rattle.block.specs.declared.search.Found.{Found}
 use Rattle.block.specs.declared.Judgement.{Judgement}
 use Rattle.block.specs.Block.{judged}
 use Rattle.block.specs.Numbers.{verdictStart}

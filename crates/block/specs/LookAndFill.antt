@@ -11,18 +11,19 @@ use Rattle.profile.specs.Profile.{InRange}
 use Rattle.profile.specs.Refusals.{EarlyRefusals}
 use Rattle.block.specs.Block.{correctAnswer, correctLeaves, lookAnswer, lookError, fillAnswer, fillLeaves, fillByAnswer, fillByLeaves}
 use Rattle.block.specs.Numbers.{verdictNumber, verdictPlace, verdictStart, verdictLength, filledNumber, filledPlace}
-use Rattle.block.specs.Runs.{Cells, Word, Reached, NoneReached, TwoReached, OneReached}
+use Rattle.block.specs.Runs.{Cells, Word, Reached, NoneReached, TwoReached, OneAccepted, OneSparse}
 use Rattle.block.specs.Promises.{LentBlock}
 use Rattle.profile.specs.declared.Profile.{Profile}
 use Rattle.block.specs.declared.Verdict.the-variants.{TooManyErrors, CorrectedCells}
 
 -- ---- 1. N3a: "a look, which writes nothing and gives the verdict"
 
--- of n cells: 3 torn, 4 tied, or mended or clean, with the result s and f. The one buffer that a look is lent it cannot write, by its type
+-- of n cells: 3 torn, 4 tied, 16 thin, or mended or clean, with the result s and f. The one buffer that a look is lent it cannot write, by its type
 pub record Looked (p : Profile) (y : List ℕ) : Type 0 where
   pub none : (verdictNumber (lookAnswer p y) ≡ 3) ↔ NoneReached p y
   pub two : (verdictNumber (lookAnswer p y) ≡ 4) ↔ TwoReached p y
-  pub one : (s f : ℕ) → ((verdictNumber (lookAnswer p y) ≡ 0) × (verdictStart (lookAnswer p y) ≡ s) × (verdictLength (lookAnswer p y) ≡ f)) ↔ ((c : List ℕ) × OneReached p y s f c)
+  pub one : (s f : ℕ) → ((verdictNumber (lookAnswer p y) ≡ 0) × (verdictStart (lookAnswer p y) ≡ s) × (verdictLength (lookAnswer p y) ≡ f)) ↔ ((c : List ℕ) × OneAccepted p y s f c)
+  pub sparse : (verdictNumber (lookAnswer p y) ≡ 16) ↔ OneSparse p y
 
 abbrev pub LookIff : Type 0
 LookIff = (p : Profile) (y : List ℕ) → InRange p → Cells p y → Looked p y

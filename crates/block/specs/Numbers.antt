@@ -1,4 +1,4 @@
--- The documents' number, place and values of each answer of an entry on a block (E5; document 02, Notes 1 and 3). The promises are stated through these, and the
+-- The documents' number, place and values of each answer of an entry on a block (E5; document 02, Notes 1, 3 and 7). The promises are stated through these, and the
 -- functions that hand them out have them as contracts. A lone block's refusal has place 0 ("else 0"), and a value that an answer does not have is 0.
 use Prim.Native.Nat.{ℕ}
 use Rattle.block.specs.declared.Verdict.{Verdict}
@@ -10,7 +10,7 @@ use Rattle.block.specs.declared.Checked.the-variants as checks
 use Rattle.block.specs.declared.Filled.{Filled}
 use Rattle.block.specs.declared.Filled.the-variants as fills
 
--- ---- correcting: 1 misprint, 2 wrong frame, 3 torn, 4 tied, 11 spotted, or 0 for a block that is mended or clean
+-- ---- correcting: 1 misprint, 2 wrong frame, 3 torn, 4 tied, 11 spotted, 16 thin, or 0 for a block that is mended or clean
 
 abbrev pub verdictNumber : Verdict → ℕ
 verdictNumber verdicts.BadProfile = 1
@@ -20,6 +20,7 @@ verdictNumber verdicts.Ambiguous = 4
 verdictNumber (verdicts.Corrected s f) = 0
 verdictNumber verdicts.TooManyErrors = 11
 verdictNumber (verdicts.CorrectedCells count lowest) = 0
+verdictNumber verdicts.Sparse = 16
 
 abbrev pub verdictPlace : Verdict → ℕ
 verdictPlace answer = 0
@@ -33,6 +34,7 @@ verdictStart verdicts.Uncorrectable = 0
 verdictStart verdicts.Ambiguous = 0
 verdictStart verdicts.TooManyErrors = 0
 verdictStart (verdicts.CorrectedCells count lowest) = 0
+verdictStart verdicts.Sparse = 0
 
 abbrev pub verdictLength : Verdict → ℕ
 verdictLength (verdicts.Corrected s f) = f
@@ -42,6 +44,7 @@ verdictLength verdicts.Uncorrectable = 0
 verdictLength verdicts.Ambiguous = 0
 verdictLength verdicts.TooManyErrors = 0
 verdictLength (verdicts.CorrectedCells count lowest) = 0
+verdictLength verdicts.Sparse = 0
 
 -- "the number of cells changed and the lowest of them"
 abbrev pub verdictCount : Verdict → ℕ
@@ -52,6 +55,7 @@ verdictCount verdicts.Uncorrectable = 0
 verdictCount verdicts.Ambiguous = 0
 verdictCount (verdicts.Corrected s f) = 0
 verdictCount verdicts.TooManyErrors = 0
+verdictCount verdicts.Sparse = 0
 
 abbrev pub verdictLowest : Verdict → ℕ
 verdictLowest (verdicts.CorrectedCells count lowest) = lowest
@@ -61,6 +65,7 @@ verdictLowest verdicts.Uncorrectable = 0
 verdictLowest verdicts.Ambiguous = 0
 verdictLowest (verdicts.Corrected s f) = 0
 verdictLowest verdicts.TooManyErrors = 0
+verdictLowest verdicts.Sparse = 0
 
 -- ---- writing, a block or a sheet: 1 misprint, 2 wrong frame, or 0
 

@@ -1,4 +1,4 @@
--- The promises on one block, of what the entries answer and leave in their buffers, through document 01's numbers (B4 to B10, E3 to E5). They name
+-- The promises on one block, of what the entries answer and leave in their buffers, through document 01's numbers (B4 to B10, E3 to E5; document 02, N7a). They name
 -- no search: what a run reaches is Runs.antt, the numbers are Numbers.antt, and the contracts in src/lib.rt say that the functions answer and
 -- leave `writeAnswer`, `writeLeaves`, `checkAnswer`, `correctAnswer` and `correctLeaves`. proofs/Promises.antt proves each.
 use mathlib.Core.Path.{_≡_}
@@ -7,12 +7,13 @@ use mathlib.Core.List.{List}
 use Prim.Native.Nat.{ℕ, _≤_, _<_}
 use lib.ListN.{length, drop}
 use Rattle.lists.specs.Bytes.{Bytes}
-use Rattle.code.specs.Code.{syndrome}
+use Rattle.code.specs.Code.{syndrome, distance}
+use Rattle.code.specs.Run.{changedIn}
 use Rattle.profile.specs.Profile.{InRange, messageLength, half}
 use Rattle.profile.specs.Refusals.{EarlyRefusals}
 use Rattle.block.specs.Block.{writeAnswer, writeLeaves, checkAnswer, correctAnswer, correctLeaves}
 use Rattle.block.specs.Numbers.{verdictNumber, verdictPlace, verdictStart, verdictLength, writtenNumber, writtenPlace, checkedNumber, checkedPlace, checkedClean}
-use Rattle.block.specs.Runs.{Cells, Word, Reached, NoneReached, TwoReached, OneReached, OneOfThree}
+use Rattle.block.specs.Runs.{Cells, Word, Reached, NoneReached, TwoReached, OneReached, SparseRepair, OneAccepted, OneSparse, OneOfThree}
 use Rattle.profile.specs.declared.Profile.{Profile}
 use Rattle.block.specs.declared.Verdict.the-variants.{TooManyErrors, CorrectedCells}
 
@@ -64,9 +65,25 @@ pub record Corrects (p : Profile) (y out : List ℕ) (s f : ℕ) (c : List ℕ) 
 
 -- mended or clean: the start, the length and the codeword that the corrector gives are the only ones of which these facts hold
 abbrev pub CorrectedIff : Type 0
-CorrectedIff = (p : Profile) (y out : List ℕ) (s f : ℕ) (c : List ℕ) → InRange p → LentBlock p y out → Corrects p y out s f c ↔ OneReached p y s f c
+CorrectedIff = (p : Profile) (y out : List ℕ) (s f : ℕ) (c : List ℕ) → InRange p → LentBlock p y out → Corrects p y out s f c ↔ OneAccepted p y s f c
 
--- ---- 6. a block is torn, tied or mended, and one of these only
+-- 16 thin
+abbrev pub SparseIff : Type 0
+SparseIff = (p : Profile) (y out : List ℕ) → InRange p → LentBlock p y out → (verdictNumber (correctAnswer p y out) ≡ 16) ↔ OneSparse p y
+
+-- a run of at most h cells is exempt from the rule, and so is a clean block, whose run has no cells
+abbrev pub ShortExempt : Type 0
+ShortExempt = (p : Profile) (y : List ℕ) (s f : ℕ) (c : List ℕ) → f ≤ half p → SparseRepair p y s f c → ⊥
+
+-- so is a run of at most three cells by which document 01 corrects, since its first and its last cell are changed; so with r below 5 the rule has no effect
+abbrev pub ThreeExempt : Type 0
+ThreeExempt = (p : Profile) (y : List ℕ) (s f : ℕ) (c : List ℕ) → InRange p → Cells p y → OneReached p y s f c → f ≤ 3 → SparseRepair p y s f c → ⊥
+
+-- the rule counts every cell in which the codeword is not the read block: none lies outside the run
+abbrev pub CountsAll : Type 0
+CountsAll = (p : Profile) (y : List ℕ) (s f : ℕ) (c : List ℕ) → Cells p y → Reached p y s f c → changedIn s f y c ≡ distance y c
+
+-- ---- 6. by document 01 a block is torn, tied or mended, and one of these only
 
 abbrev pub ExactlyOne : Type 0
 ExactlyOne = (p : Profile) (y : List ℕ) → InRange p → Cells p y → OneOfThree p y
@@ -96,7 +113,7 @@ pub record CheckRefusals (p : Profile) (y : List ℕ) : Type 0 where
   pub place : checkedPlace (checkAnswer p y) ≡ 0
   pub flag : checkedNumber (checkAnswer p y) ≢ 0 → checkedClean (checkAnswer p y) ≡ 0
 
--- the corrector's 3 and 4 included
+-- the corrector's 3, 4 and 16 included
 pub record CorrectRefusals (p : Profile) (y out : List ℕ) : Type 0 where
   pub early : EarlyRefusals p ((length y ≡ p .n) × (length out ≡ p .n)) (verdictNumber (correctAnswer p y out))
   pub place : verdictPlace (correctAnswer p y out) ≡ 0

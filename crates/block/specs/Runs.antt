@@ -1,5 +1,5 @@
 -- What the runs of n read cells reach under a profile, in the words of document 01, "Runs" (B6 to B9): torn, tied and mended, each as a relation
--- between the cells, the runs and the codewords. A run, what it reaches and what a codeword is are defined in the code crate, specs/Code.antt and
+-- between the cells, the runs and the codewords; and which of what is mended so is thin (document 02, Note 7; N7a). A run, what it reaches and what a codeword is are defined in the code crate, specs/Code.antt and
 -- specs/Run.antt. No entry and no search is named here.
 use mathlib.Core.Path.{_≡_}
 use mathlib.Core.Logic.{_≢_, _⊎_}
@@ -8,7 +8,8 @@ use Prim.Native.Nat.{ℕ, _≤_, _<_}
 use lib.ListN.{length}
 use Rattle.lists.specs.Bytes.{Bytes}
 use Rattle.code.specs.Code.{Codeword}
-use Rattle.code.specs.Run.{Reaches}
+use Rattle.code.specs.Run.{Reaches, changedIn}
+use Rattle.profile.specs.Profile.{SparseRun}
 use Rattle.profile.specs.declared.Profile.{Profile}
 
 module _ (p : Profile) where
@@ -54,6 +55,19 @@ module _ (p : Profile) where
       pub least : Least f
       pub others : (s′ f′ : ℕ) (c′ : List ℕ) → Reached s′ f′ c′ → c′ ≢ c → f < f′
       pub clean : c ≡ y → (s ≡ 0) × (f ≡ 0)
+
+    -- "a repair whose length exceeds half of r is refused unless more than half of its run is changed": changed are the cells of the run in which the codeword is
+    -- not the read block
+    abbrev pub SparseRepair : ℕ → ℕ → List ℕ → Type 0
+    SparseRepair s f c = SparseRun p f (changedIn s f y c)
+
+    -- mended by document 01, and the rule lets it
+    abbrev pub OneAccepted : ℕ → ℕ → List ℕ → Type 0
+    OneAccepted s f c = OneReached s f c × (SparseRepair s f c → ⊥)
+
+    -- thin: mended by document 01, and the rule does not let it
+    abbrev pub OneSparse : Type 0
+    OneSparse = (s f : ℕ) × (c : List ℕ) × OneReached s f c × SparseRepair s f c
 
 -- exactly one of the three holds
 pub record OneOfThree (p : Profile) (y : List ℕ) : Type 0 where

@@ -2,24 +2,25 @@
 // correcting is made. A block's check cells, its remainder and the shifted remainders come from the shift register of the crate `register`; each entry
 // refuses with 1, then 2, and its contract gives the answer and every lent byte by a definition of specs/Block.antt.
 ghost use mathlib.Core.Path.{_≡_};
-ghost use Prim.Native.Nat.{_≤_, _<_};
+ghost use Prim.Native.Nat.{_≤_};
 ghost use lib.ListN.{length, take};
-ghost use Rattle.code.specs.Code.{generator, remainder};
+ghost use Rattle.code.specs.Code.{generator, remainder, weight};
 ghost use Rattle.code.specs.Run.{ZeroFrom, shiftedRemainder};
 ghost use Rattle.register.specs.Words.{cells};
 ghost use Rattle.words.specs.Cells.{padTo};
-ghost use Rattle.profile.specs.Profile.{InRange};
+ghost use Rattle.profile.specs.Profile.{InRange, isSparse};
 ghost use Rattle.block.specs.Block.{checkCells, isSpan, writeAnswer, writeLeaves, readRemainder, checkAnswer, correctAnswer, correctLeaves, lookAnswer, lookError, fillAnswer, fillLeaves, fillByAnswer, fillByLeaves};
-ghost use Rattle.block.specs.Found.{generatorOnTop, improvedBy, Searched, JudgedFrom, shiftedAt};
+ghost use Rattle.block.specs.Found.{generatorOnTop, JudgedFrom, shiftedAt};
 use profile::Profile;
 use register::Register;
 
 mod lay;
 mod numbers;
+mod search;
 
 /// What correcting a block answers, in every mode. Document 01 calls the cases misprint, wrong frame, torn, tied, and mended (or clean);
-/// `length` cells from `start` on are "the result s and f". The last two are of document 02, Note 1: spotted, and mended (or clean) with
-/// `count` cells changed, of which `lowest` is the lowest; `correct` and `look` never answer them.
+/// `length` cells from `start` on are "the result s and f". `TooManyErrors` and `CorrectedCells` are of document 02, Note 1: spotted, and mended (or clean)
+/// with `count` cells changed, of which `lowest` is the lowest; `correct` and `look` never answer them. `Sparse` is of its Note 7: thin.
 pub enum Verdict {
     BadProfile,
     WrongLength,
@@ -28,6 +29,7 @@ pub enum Verdict {
     Corrected { start: usize, length: usize },
     TooManyErrors,
     CorrectedCells { count: usize, lowest: usize },
+    Sparse,
 }
 
 /// What writing a block or a sheet answers: misprint, wrong frame, or that it is written.
@@ -141,82 +143,20 @@ pub fn check(p: Profile, read: &[u8]) -> Checked
 
 // ---- looking
 
-// What the search has found: the least length, its first start, 1 if a second start has it and else 0, and the shifted remainder there.
-// All fields are words: the copies of a struct with gaps between its fields cost more than the search's step.
-struct Found {
-    size: usize,
-    start: usize,
-    again: usize,
-    error: Register,
-}
-
-// One start: the run from s needs as many cells as the extent of its shifted remainder.
-fn improved(k: Found, n: usize, s: usize, rest: Register) -> Found
-    requires { ⌜ s < 256 ⌝ }
-    ensures { λ z. ⌜ z ≡ improvedBy k n s rest ⌝ }
-{
-    let e = register::extent(rest);
-    let size = k.size;
-    if n < s + e {
-        return k;
-    }
-    if e < size {
-        return Found {
-            size: e,
-            start: s,
-            again: 0,
-            error: rest,
-        };
-    }
-    if size < e {
-        return k;
-    }
-    let start = k.start;
-    let error = k.error;
-    Found {
-        size,
-        start,
-        again: 1,
-        error,
-    }
-}
-
-// The search: one pass over the starts, with the shifted remainder of each. A step back adds the rows of the two halves of the lowest cell f.
-fn search(p: Profile, g: Register, first: Register) -> Found
-    requires { ⌜ InRange p ⌝ }
-    requires { ⌜ cells g ≡ generatorOnTop p ⌝ }
-    requires { ⌜ ZeroFrom (p .r) (cells first) ⌝ }
-    ensures { λ z. ⌜ Searched p (take (p .r) (cells first)) z ⌝ }
-{
-    let back = register::generator_bottom(g, p.r);
-    let low = register::rows(back);
-    let high = register::high_rows(back);
-    let mut rest = first;
-    let mut f = register::bottom(first);
-    let mut found = Found {
-        size: p.limit + 1,
-        start: 0,
-        again: 0,
-        error: first,
-    };
-    let mut s: usize = 0;
-    while s < p.n {
-        let next = improved(found, p.n, s, rest);
-        found = next;
-        let h = high[f / 16];
-        let l = low[f % 16];
-        let shifted = register::add(register::add(register::shift_down(rest), h), l);
-        rest = shifted;
-        f = register::bottom(shifted);
-        s += 1;
-    }
-    found
-}
-
 /// What a look finds: the verdict, and the shifted remainder at its start, from which the fill of its run is made. A refusal has start 0.
 pub struct Judgement {
     pub verdict: Verdict,
     pub error: Register,
+}
+
+// Whether a run is thin, by the shifted remainder at its start. One of at most h cells is exempt, and its changed cells are not counted.
+fn run_is_sparse(p: Profile, size: usize, error: Register) -> bool
+    ensures { λ a. ⌜ a ≡ isSparse p size (weight (cells error)) ⌝ }
+{
+    if size <= p.half() {
+        return false;
+    }
+    p.is_sparse(size, register::weight(error))
 }
 
 // The verdict on a block of which `rest` is the remainder.
@@ -236,7 +176,7 @@ fn judge_remainder(p: Profile, g: Register, rest: Register) -> Judgement
             error: rest,
         };
     }
-    let found = search(p, g, rest);
+    let found = search::search(p, g, rest);
     let size = found.size;
     let start = found.start;
     let error = found.error;
@@ -249,6 +189,12 @@ fn judge_remainder(p: Profile, g: Register, rest: Register) -> Judgement
     if found.again == 1 {
         return Judgement {
             verdict: Verdict::Ambiguous,
+            error: rest,
+        };
+    }
+    if run_is_sparse(p, size, error) {
+        return Judgement {
+            verdict: Verdict::Sparse,
             error: rest,
         };
     }

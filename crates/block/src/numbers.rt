@@ -7,7 +7,7 @@ ghost use mathlib.Core.Path.{_≡_};
 ghost use Rattle.block.specs.Numbers.{verdictNumber, verdictPlace, verdictStart, verdictLength, verdictCount, verdictLowest, writtenNumber, writtenPlace, checkedNumber, checkedPlace, checkedClean, filledNumber, filledPlace};
 
 impl Verdict {
-    /// 1 to 4, or 11, or 0 for a corrected block.
+    /// 1 to 4, 11 or 16, or 0 for a corrected block.
     pub fn number(self) -> usize
         ensures { λ r. ⌜ r ≡ verdictNumber self ⌝ }
     {
@@ -25,6 +25,7 @@ impl Verdict {
                 count: _,
                 lowest: _,
             } => 0,
+            Verdict::Sparse => 16,
         }
     }
 
@@ -50,6 +51,7 @@ impl Verdict {
                 count: _,
                 lowest: _,
             } => 0,
+            Verdict::Sparse => 0,
         }
     }
 
@@ -68,6 +70,7 @@ impl Verdict {
                 count: _,
                 lowest: _,
             } => 0,
+            Verdict::Sparse => 0,
         }
     }
 
@@ -86,6 +89,7 @@ impl Verdict {
                 length: _,
             } => 0,
             Verdict::TooManyErrors => 0,
+            Verdict::Sparse => 0,
         }
     }
 
@@ -104,6 +108,7 @@ impl Verdict {
                 length: _,
             } => 0,
             Verdict::TooManyErrors => 0,
+            Verdict::Sparse => 0,
         }
     }
 }

@@ -18,7 +18,7 @@ use Rattle.field.proofs.Product.{mul-lt, mul-comm, zero-mul, one-mul, mul-one, 
 use Rattle.field.proofs.Power.{power-lt, alpha-ne-zero, alpha-ne-one, mul-eq-zero}
 use Rattle.lists.specs.Bytes.{Bytes}
 use Rattle.code.specs.Poly.{eval, padd}
-use Rattle.code.specs.Code.{syndrome, distance}
+use Rattle.code.specs.Code.{syndrome, distance, nonzero, weight}
 use Rattle.code.proofs.Poly.{eval-lt, eval-cons-zero, eval-padd, padd-length, padd-bytes, equal-of-zero}
 
 -- every cell is zero
@@ -31,24 +31,14 @@ zero-at [] k h = refl
 zero-at (x ∷ c) zero h = h .0
 zero-at (x ∷ c) (suc k) h = zero-at c k (h .1)
 
--- 1 for a cell that is not zero
-abbrev mark : ℕ → ℕ
-mark zero = 0
-mark (suc n) = 1
-
-mark-le : (n : ℕ) → mark n ≤ 1
-mark-le zero = zero-le
-mark-le (suc n) = omega arith
-
--- how many cells are not zero
-unfoldable pub weight : List ℕ → ℕ
-weight [] = 0
-weight (x ∷ c) = mark x + weight c
+pub nonzero-le : (n : ℕ) → nonzero n ≤ 1
+nonzero-le zero = zero-le
+nonzero-le (suc n) = omega arith
 
 pub weight-le : (c : List ℕ) → weight c ≤ length c
 unfolding weight
 weight-le [] = zero-le
-weight-le (x ∷ c) = omega (arith, mark-le x, weight-le c)
+weight-le (x ∷ c) = omega (arith, nonzero-le x, weight-le c)
 
 weight-zero : (c : List ℕ) → weight c ≤ 0 → Zero c
 unfolding weight
@@ -86,14 +76,14 @@ unfolding twist
 twist-bytes p [] = tt
 twist-bytes p (x ∷ c) = (mul-lt x (add p 1), twist-bytes (mul 2 p) c)
 
-mark-mul : (x y : ℕ) → mark (mul x y) ≤ mark x
-mark-mul zero y = rw zero-mul zero-le
-mark-mul (suc x) y = mark-le (mul (suc x) y)
+nonzero-mul : (x y : ℕ) → nonzero (mul x y) ≤ nonzero x
+nonzero-mul zero y = rw zero-mul zero-le
+nonzero-mul (suc x) y = nonzero-le (mul (suc x) y)
 
 twist-weight : (p : ℕ) (c : List ℕ) → weight (twist p c) ≤ weight c
 unfolding twist weight
 twist-weight p [] = zero-le
-twist-weight p (x ∷ c) = omega (arith, mark-mul x (add p 1), twist-weight (mul 2 p) c)
+twist-weight p (x ∷ c) = omega (arith, nonzero-mul x (add p 1), twist-weight (mul 2 p) c)
 
 -- its factors are not zero
 untwist : (k : ℕ) (c : List ℕ) → 0 < k → k + length c ≤ 255 → Bytes c → Zero (twist (alpha k) c) → Zero c
@@ -153,15 +143,15 @@ few-cells (suc r) b c hb hl hw hs = along r b (few-cells r b) c hb hl hw hs
 
 -- ---- two words
 
-mark-add : (x y : ℕ) → mark (add x y) ≤ pick (eqb x y) 0 1
-mark-add x y = ⊎-elim (λ t. rw (t, eqb-true x y t, add-self) zero-le) (λ t. rw t (mark-le (add x y))) (true-or-false (eqb x y))
+nonzero-add : (x y : ℕ) → nonzero (add x y) ≤ pick (eqb x y) 0 1
+nonzero-add x y = ⊎-elim (λ t. rw (t, eqb-true x y t, add-self) zero-le) (λ t. rw t (nonzero-le (add x y))) (true-or-false (eqb x y))
 
 pub distance-weight : (c d : List ℕ) → length c ≡ length d → weight (padd c d) ≤ distance c d
 unfolding weight padd distance
 distance-weight [] [] e = zero-le
 distance-weight [] (y ∷ d) e = absurd (omega arith)
 distance-weight (x ∷ c) [] e = absurd (omega arith)
-distance-weight (x ∷ c) (y ∷ d) e = omega (arith, mark-add x y, distance-weight c d (suc-inj e))
+distance-weight (x ∷ c) (y ∷ d) e = omega (arith, nonzero-add x y, distance-weight c d (suc-inj e))
 
 pub distance-le : (c d : List ℕ) → distance c d ≤ length c
 unfolding distance

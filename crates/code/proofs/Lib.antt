@@ -4,5 +4,6 @@ pub mod Distance
 pub mod Division
 pub mod Shifted
 pub mod Split
+pub mod Changed
 pub mod Search
 pub mod Theorems

@@ -1,5 +1,5 @@
 -- The code of document 01, "The field and the block": generator, syndromes, codewords, remainder, in how many cells two
--- words differ, and which codewords are near. Clauses B3, B5, B11. The definitions are for every b, r and n; ranges are set where a theorem needs them.
+-- words differ and how many of one are not zero, and which codewords are near. Clauses B3, B5, B11. The definitions are for every b, r and n; ranges are set where a theorem needs them.
 use mathlib.Core.Path.{_≡_}
 use mathlib.Core.List.{List, [], _∷_}
 use Prim.Native.Nat.{ℕ, zero, suc, _+_, _-_, _≤_}
@@ -42,6 +42,16 @@ unfoldable pub distance : List ℕ → List ℕ → ℕ
 distance [] d = 0
 distance (x ∷ c) [] = 0
 distance (x ∷ c) (y ∷ d) = pick (eqb x y) 0 1 + distance c d
+
+-- 1 for a cell that is not zero
+abbrev pub nonzero : ℕ → ℕ
+nonzero zero = 0
+nonzero (suc x) = 1
+
+-- how many cells are not zero (the Hamming weight)
+unfoldable pub weight : List ℕ → ℕ
+weight [] = 0
+weight (x ∷ c) = nonzero x + weight c
 
 -- c is a codeword and differs from y in at most h cells
 pub record IsNear (n r b h : ℕ) (y c : List ℕ) : Type 0 where

@@ -1,13 +1,13 @@
--- Runs of a read block and the codewords that they reach, in the words of document 01, "Runs" (clauses B6 to B9), and the shifted
--- remainders, from which the theorems of Theorems.antt read off what a run reaches.
+-- Runs of a read block and the codewords that they reach, in the words of document 01, "Runs" (clauses B6 to B9), how many cells of a run are changed
+-- (document 02, Note 7), and the shifted remainders, from which the theorems of Theorems.antt read off what a run reaches.
 use mathlib.Core.Path.{_≡_}
 use mathlib.Core.Logic.{_⊎_}
 use mathlib.Core.List.{List, [], _∷_, _++_}
 use Prim.Native.Nat.{ℕ, zero, suc, _+_, _≤_, _<_}
-use lib.ListN.{getD, replicate}
+use lib.ListN.{getD, take, drop, replicate}
 use Rattle.field.specs.Field.{mul, inverse}
 use Rattle.code.specs.Poly.{padd, pscale}
-use Rattle.code.specs.Code.{Codeword, generator, remainder}
+use Rattle.code.specs.Code.{Codeword, generator, remainder, distance}
 
 -- cell i lies outside the run that starts at s and is f cells long
 abbrev pub Outside : ℕ → ℕ → ℕ → Type 0
@@ -19,6 +19,10 @@ pub record Reaches (n r b : ℕ) (y : List ℕ) (s f : ℕ) (c : List ℕ) : Typ
   pub run : s + f ≤ n
   pub codeword : Codeword n r b c
   pub agree : (i : ℕ) → i < n → Outside s f i → getD y i 0 ≡ getD c i 0
+
+-- in how many cells of that run two words differ
+abbrev pub changedIn : ℕ → ℕ → List ℕ → List ℕ → ℕ
+changedIn s f y c = distance (take f (drop s y)) (take f (drop s c))
 
 abbrev pub tail : List ℕ → List ℕ
 tail [] = []

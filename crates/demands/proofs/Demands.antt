@@ -4,7 +4,7 @@ use Rattle.field.proofs.Polynomial.{sum-coefficients}
 use Rattle.code.proofs.Theorems.{codeword-iff-syndromes, minimum-distance, long-run-reaches}
 use Rattle.profile.proofs.Ranges.{in-range}
 use Rattle.block.proofs.Verdicts.{exactly-one}
-use Rattle.block.proofs.Promises.{writes-codeword, clean-iff, uncorrectable-iff, ambiguous-iff, corrected-iff, depth-free, half-promise, block-refusals}
+use Rattle.block.proofs.Promises.{writes-codeword, clean-iff, uncorrectable-iff, ambiguous-iff, corrected-iff, sparse-iff, depth-free, half-promise, block-refusals}
 use Rattle.sheet.proofs.Apart.{places, taken-apart}
 use Rattle.sheet.proofs.Differ.{differ-iff}
 use Rattle.sheet.proofs.Theorems.{writes-sheet, read-results}
@@ -54,6 +54,7 @@ demands = record {
     two = ambiguous-iff;
     otherwise = exactly-one;
     one = corrected-iff;
+    sparse = sparse-iff;
     reading = read-results;
     writing = writes-sheet;
     scratched = λ p m cells sheet scratch out v l h c d b. let q = sheet-promise p m cells v h c .damaged sheet scratch out l d b in (q .number, q .payload);

@@ -8,11 +8,11 @@ use native.Mathlib.Omega.{arith}
 use lib.ListN.{length, getD}
 use Rattle.field.specs.Field.{add, double, mulBits, mul, power, squares, inverse}
 use Rattle.code.specs.Poly.{padd, pscale, pmul}
-use Rattle.code.specs.Code.{generator, remStep, remainder, Codeword}
+use Rattle.code.specs.Code.{generator, remStep, remainder, weight, Codeword}
 use Rattle.code.specs.Run.{Outside, backStep, backSteps, shiftedRemainder, addedAt}
 use Rattle.code.specs.Search.{extent, better, scanned, extents}
-use Rattle.profile.specs.Profile.{inRange, messageLength}
-use Rattle.block.specs.Block.{checkCells, encode, decided, judged, verdict, filled, corrected, writeAnswer, writeLeaves, correctAnswer}
+use Rattle.profile.specs.Profile.{inRange, messageLength, isSparse}
+use Rattle.block.specs.Block.{checkCells, encode, runVerdict, decided, judged, verdict, filled, corrected, writeAnswer, writeLeaves, correctAnswer}
 use Rattle.block.specs.Numbers.{verdictNumber, verdictStart, verdictLength, writtenNumber}
 use Rattle.block.specs.Promises.{Corrects}
 use Rattle.profile.specs.declared.Profile.{Profile}
@@ -74,7 +74,7 @@ module _ (p : Profile) (t : inRange p ≡ true) where
   shows-sheet m s k e out l = let q = write-rest p m out (in-range p .0 t) k l in (ap writtenNumber (q .0), q .1 ∙ e)
 
 pub starred-examples : StarredExamples
-unfolding inRange add double mulBits mul power squares inverse padd pscale pmul generator remStep remainder backStep backSteps shiftedRemainder addedAt extent better scanned extents checkCells encode decided judged verdict filled corrected interleave messageOf writtenBlock writtenSheet
+unfolding inRange add double mulBits mul power squares inverse padd pscale pmul generator remStep remainder backStep backSteps shiftedRemainder addedAt extent better scanned extents checkCells encode weight isSparse runVerdict decided judged verdict filled corrected interleave messageOf writtenBlock writtenSheet
 starred-examples = (
   shows (small 0 1) refl _ refl 0 0 _ refl refl,
   (

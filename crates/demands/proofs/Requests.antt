@@ -1,10 +1,12 @@
 -- The requests of document 02, each from the theorem of its own crate.
 use mathlib.Core.Path.{sym, ap, _∙_}
+use native.Mathlib.Omega.{arith}
 use Rattle.field.proofs.Polynomial.{product-iff, inverse-iff}
 use Rattle.field.proofs.Operation.{only-product}
 use Rattle.code.specs.Code.{distance}
 use Rattle.code.proofs.Distance.{distance-self}
-use Rattle.block.proofs.Promises.{uncorrectable-iff}
+use Rattle.profile.proofs.Sparse.{sparse-run-iff}
+use Rattle.block.proofs.Promises.{uncorrectable-iff, ambiguous-iff, corrected-iff, sparse-iff, short-exempts, three-exempts, counts-all, half-promise, block-refusals}
 use Rattle.block.proofs.LookAndFill.{look-iff, look-refusals, filled-iff, one-within, no-codeword-iff, fill-limit-free, empty-run-iff, fill-refusals, looks-then-fills, fills-at-once}
 use Rattle.spots.proofs.Promises.{corrected-cells-iff, too-many-errors-iff, no-tie, near-comes-back, limit-free, spot-refusals}
 use Rattle.sheet.specs.declared.Mode.the-variants.{Burst, Spots}
@@ -22,9 +24,10 @@ use Rattle.stand_promises.proofs.Species.{rows-iff, columns-iff}
 use Rattle.stand_promises.proofs.Trees.{tally-lines}
 use Rattle.stand_promises.proofs.Exactly.{beginning-exactly, adding-payload, total-exactly, per-plot-exactly}
 use Rattle.stand_promises.proofs.InTurn.{in-turn}
+use Rattle.listing.proofs.Refusals.{list-refusals}
 use Rattle.former.proofs.AsBefore.{numbers-and-text-as-before}
 use Rattle.former.proofs.LessScratch.{as-former-reader, text-as-former, same-rule, former-scratch-refused}
-use Rattle.demands.specs.Requests.{Request1, Request2, Request3, Request4, Request5, Request6, Requests}
+use Rattle.demands.specs.Requests.{Request1, Request2, Request3, Request4, Request5, Request6, Request7, Requests}
 
 request-1 : Request1
 request-1 = record {
@@ -88,5 +91,35 @@ request-6 = record {
   rule = same-rule;
 }
 
+request-7 : Request7
+request-7 = record {
+  rule = sparse-run-iff;
+  counted = counts-all;
+  none = uncorrectable-iff;
+  two = ambiguous-iff;
+  look = look-iff;
+  fill = filled-iff;
+  filled = λ p y out s f c v h o. filled-iff p y s f out c v h .1 (omega (arith, o .within, v .limit-below), o .reached);
+  exempt = short-exempts;
+  three = three-exempts;
+  half-run = half-promise;
+  sheets = sheet-promise;
+  mended = λ p y out s f c v h o. (
+    λ n. corrected-iff p y out s f c v h .1 (o, n),
+    λ z. sparse-iff p y out v h .1 (s, f, c, o, z),
+  );
+  corrected = corrected-iff;
+  sparse = sparse-iff;
+  refusals = λ p. block-refusals p .corrects;
+  reading = read-results Burst;
+  sheet-refusals = λ p. sheet-refusals p .reads Burst;
+  listing = list-refusals;
+  by-spots = λ p y out s f c v h o z.
+      near-comes-back p y out c v h (record {
+        word = o .reached .codeword;
+        within = omega (arith, counts-all p y s f c (h .cells) (o .reached), z .few, o .within, v .limit-below);
+      });
+}
+
 pub requests : Requests
-requests = record { first = request-1; second = request-2; third = request-3; fourth = request-4; fifth = request-5; sixth = request-6 }
+requests = record { first = request-1; second = request-2; third = request-3; fourth = request-4; fifth = request-5; sixth = request-6; seventh = request-7 }

@@ -9,7 +9,7 @@ use Rattle.field.specs.Laws.{FieldLaws, AlphaLaws}
 use Rattle.field.specs.Polynomial.{SumCoefficients}
 use Rattle.code.specs.Theorems.{CodewordIffSyndromes, MinimumDistance, LongRunReaches}
 use Rattle.profile.specs.Profile.{InRange, InRangeIff, half}
-use Rattle.block.specs.Promises.{WritesCodeword, CleanIff, UncorrectableIff, AmbiguousIff, CorrectedIff, ExactlyOne, HalfPromise, DepthFree, BlockRefusals}
+use Rattle.block.specs.Promises.{WritesCodeword, CleanIff, UncorrectableIff, AmbiguousIff, CorrectedIff, SparseIff, ExactlyOne, HalfPromise, DepthFree, BlockRefusals}
 use Rattle.profile.specs.declared.Profile.{Profile}
 use Rattle.sheet.specs.declared.Mode.{Mode}
 use Rattle.sheet.specs.declared.Mode.the-variants.{Burst}
@@ -70,9 +70,11 @@ pub record Demand3 : Type 0 where
   -- ".. and tied exactly when within that limit two different codewords share the shortest length."
   pub two : AmbiguousIff
   -- "Else it is mended to the codeword that differs from it inside the shortest run, every other codeword lying within longer runs only; the result is that
-  -- run's start and length, 0 and 0 if clean."
+  -- run's start and length, 0 and 0 if clean.": `otherwise` is of the relations of document 01; since document 02, Note 7, a block that is mended by them is
+  -- accepted so, or, exactly by its rule, thin
   pub otherwise : ExactlyOne
   pub one : CorrectedIff
+  pub sparse : SparseIff
   -- "A sheet is refused exactly when a block of it is, with the lowest such block's number and reason; else its payload is the message bytes of all its
   -- blocks as mended, in document 01's order.": in every mode; document 01's is the burst mode
   pub reading : ReadResults

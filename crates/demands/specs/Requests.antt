@@ -8,10 +8,14 @@ use lib.ListN.{length}
 use Rattle.field.specs.Polynomial.{ProductIff, InverseIff}
 use Rattle.field.specs.Operation.{OnlyProduct}
 use Rattle.code.specs.Code.{distance}
-use Rattle.profile.specs.Profile.{InRange}
+use Rattle.profile.specs.Profile.{InRange, SparseRunIff}
 use Rattle.profile.specs.declared.Profile.{Profile}
-use Rattle.block.specs.Promises.{LentBlock, UncorrectableIff}
-use Rattle.block.specs.LookAndFill.{LookIff, LookRefusals, FilledIff, OneWithin, NoCodewordIff, FillLimitFree, EmptyRun, FillRefusals, LooksThenFills, FillsAtOnce}
+use Rattle.block.specs.Block.{correctAnswer}
+use Rattle.block.specs.Numbers.{verdictNumber}
+use Rattle.block.specs.Runs.{OneReached, SparseRepair}
+use Rattle.block.specs.Promises.{LentBlock, UncorrectableIff, AmbiguousIff, Corrects, CorrectedIff, SparseIff, ShortExempt, ThreeExempt, CountsAll, HalfPromise, CorrectRefusals}
+use Rattle.block.specs.LookAndFill.{LookIff, LookRefusals, Fills, FilledIff, OneWithin, NoCodewordIff, FillLimitFree, EmptyRun, FillRefusals, LooksThenFills, FillsAtOnce}
+use Rattle.spots.specs.Spots.{spotAnswer, spotLeaves}
 use Rattle.spots.specs.Nearest.{LowestChanged}
 use Rattle.spots.specs.Promises.{CorrectsCells, CorrectedCellsIff, TooManyErrorsIff, NoTie, NearComesBack, LimitFree, SpotRefusals}
 use Rattle.sheet.specs.declared.Mode.{Mode}
@@ -21,7 +25,7 @@ use Rattle.sheet.specs.Numbers.{readingNumber}
 use Rattle.sheet.specs.Buffers.{Payload, Lent}
 use Rattle.sheet.specs.Theorems.{Results, ReadRefusals, SheetLimitFree}
 use Rattle.sheet.specs.Looks.{SheetByLooks}
-use Rattle.sheet.specs.Promise.{FewErrors}
+use Rattle.sheet.specs.Promise.{FewErrors, SheetPromise}
 use Rattle.plot.specs.declared.Line.{Line}
 use Rattle.plot.specs.Layout.{Plot}
 use Rattle.plot.specs.Sheets.{SameAfterErrors}
@@ -32,6 +36,7 @@ use Rattle.stand_promises.specs.Species.{RowsIff, ColumnsIff}
 use Rattle.stand_promises.specs.Trees.{TallyLines}
 use Rattle.stand_promises.specs.Exactly.{BeginningExactly, AddingPayload, TotalExactly, PerPlotExactly}
 use Rattle.stand_promises.specs.InTurn.{InTurn}
+use Rattle.listing.specs.Refusals.{ListRefusals}
 use Rattle.former.specs.AsBefore.{NumbersAndTextAsBefore}
 use Rattle.former.specs.LessScratch.{AsFormerReader, TextAsFormer, SameRule, FormerScratchRefused}
 
@@ -138,6 +143,40 @@ pub record Request6 : Type 0 where
   -- "Afterwards the n bytes are zero, by the same rule as before."
   pub rule : (mode : Mode) (p : Profile) (sheet out scratch : List ℕ) → SameRule mode p sheet out scratch
 
+-- Note 7, long but thin repairs
+pub record Request7 : Type 0 where
+  -- "From now on a repair whose length exceeds half of r is refused unless more than half of its run is changed.": refused by 16 exactly so, and else accepted; the cells
+  -- that are counted are all that the repair changes; what the public test of the two numbers answers
+  pub sparse : SparseIff
+  pub corrected : CorrectedIff
+  pub counted : CountsAll
+  pub rule : SparseRunIff
+  -- "The run is still found as before, so a shorter or tied one decides first.": torn and tied are what they were, by the relations of demand 3
+  pub none : UncorrectableIff
+  pub two : AmbiguousIff
+  -- "The look of Note 3 applies the rule, the fill doesn't.": the run by which demand 3 mends is filled, thin or not
+  pub look : LookIff
+  pub fill : FilledIff
+  pub filled : (p : Profile) (y out : List ℕ) (s f : ℕ) (c : List ℕ) → InRange p → LentBlock p y out → OneReached p y s f c → Fills p y s f out c
+  -- "Shorter repairs and clean blocks are exempt, so scratches within depth times h come back as ever.": exempt are also runs of at most three cells by which a block is
+  -- mended; of one block, and of a sheet, word for word as in demand 3
+  pub exempt : ShortExempt
+  pub three : ThreeExempt
+  pub half-run : HalfPromise
+  pub sheets : SheetPromise
+  -- "A block that demand 3 calls mended is from now on mended or, exactly by this rule, thin."
+  pub mended : (p : Profile) (y out : List ℕ) (s f : ℕ) (c : List ℕ) → InRange p → LentBlock p y out → OneReached p y s f c
+      → ((SparseRepair p y s f c → ⊥) → Corrects p y out s f c) × (SparseRepair p y s f c → verdictNumber (correctAnswer p y out) ≡ 16)
+  -- "Answers: 16 thin, after 4, with the block number on a sheet.": on a sheet the lowest block that is refused decides, and the lister prints it so; every lent buffer as after
+  -- 3 and 4
+  pub refusals : (p : Profile) (y out : List ℕ) → CorrectRefusals p y out
+  pub reading : (p : Profile) (sheet scratch out : List ℕ) → InRange p → Lent p sheet scratch out → Results Burst p sheet scratch out
+  pub sheet-refusals : (p : Profile) (sheet scratch out : List ℕ) → ReadRefusals Burst p sheet scratch out
+  pub listing : (input : List ℕ) → ListRefusals input
+  -- what the note does not say: a thin repair changes at most h cells, so spot mode, which has no such rule, accepts every thin block, with the very codeword
+  pub by-spots : (p : Profile) (y out : List ℕ) (s f : ℕ) (c : List ℕ) → InRange p → LentBlock p y out → OneReached p y s f c → SparseRepair p y s f c
+      → (verdictNumber (spotAnswer p y out) ≡ 0) × (spotLeaves p y out ≡ c)
+
 pub record Requests : Type 0 where
   pub first : Request1
   pub second : Request2
@@ -145,3 +184,4 @@ pub record Requests : Type 0 where
   pub fourth : Request4
   pub fifth : Request5
   pub sixth : Request6
+  pub seventh : Request7

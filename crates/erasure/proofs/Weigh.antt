@@ -13,9 +13,9 @@ use Rattle.field.proofs.Product.{mul-lt, mul-assoc, mul-left-comm, mul-zero, ze
 use Rattle.field.proofs.Power.{power-lt, power-mul}
 use Rattle.lists.specs.Bytes.{Bytes}
 use Rattle.code.specs.Poly.{eval}
-use Rattle.code.specs.Code.{syndrome}
+use Rattle.code.specs.Code.{syndrome, weight}
 use Rattle.code.proofs.Poly.{eval-lt}
-use Rattle.code.proofs.Distance.{eval-zero, Zero, weight}
+use Rattle.code.proofs.Distance.{eval-zero, Zero}
 use Rattle.products.specs.Products.{dot}
 use Rattle.erasure.specs.Filling.{windows}
 use Rattle.erasure.proofs.Dot.{dot-nil}

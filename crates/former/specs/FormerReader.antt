@@ -1,6 +1,6 @@
 -- The reader of a sheet (S3 to S6) as it was before document 02's Note 6, with a scratch of D × n bytes, kept so that today's reader can be compared with it
 -- (LessScratch.antt). Each definition has the former text. What the note left as it was, which is what the blocks answer together and the payload of their
--- codewords, is not repeated: it comes from crates/sheet/specs.
+-- codewords, is not repeated: it comes from crates/sheet/specs. So both readers are over today's verdict on a block, with the rule of Note 7.
 use mathlib.Core.Bool.{Bool}
 use mathlib.Core.List.{List}
 use Prim.Native.Nat.{ℕ, _*_}

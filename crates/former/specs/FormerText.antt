@@ -1,6 +1,6 @@
 -- The lister's answer (L1, L2) as it was before document 02's Note 2, from the former reading of a payload. Each definition has the former text; how a number, a line and
 -- the plots are printed did not change, and comes from crates/listing_text and crates/listing. The sheet is read by today's reader, which is the former one but for the length
--- of its scratch (LessScratch.antt).
+-- of its scratch (LessScratch.antt) and for the rule of Note 7 in its verdicts.
 use mathlib.Core.List.{List, _++_}
 use Prim.Native.Nat.{ℕ}
 use lib.Dec.{ltb}

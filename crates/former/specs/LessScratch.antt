@@ -1,6 +1,6 @@
 -- "The scratch's length aside, verdicts, payload, refusals and their places are those of the old reader on every input, and a refused sheet still leaves the
--- payload buffer untouched. Afterwards the n bytes are zero, by the same rule as before." (document 02, Note 6; N6a, N6b), of every mode. proofs/LessScratch.antt
--- proves each.
+-- payload buffer untouched. Afterwards the n bytes are zero, by the same rule as before." (document 02, Note 6; N6a, N6b), of every mode. Both
+-- readers are over today's verdict on a block, with the rule of Note 7. proofs/LessScratch.antt proves each.
 use mathlib.Core.Path.{_≡_}
 use mathlib.Core.Logic.{_↔_, _≢_, _⊎_}
 use mathlib.Core.List.{List}

@@ -15,7 +15,8 @@ use Rattle.sheet.specs.Buffers.{Lent}
 use Rattle.sheet.specs.Theorems.{LowestRefused, AllWords, differing}
 use Rattle.sheet.specs.declared.Reading.{Reading}
 use Rattle.sheet.specs.declared.Reading.the-variants.{Refused, Accepted}
-use Rattle.sheet.proofs.Theorems.{read-accepts}
+use Rattle.sheet.proofs.Modes.{block-law}
+use Rattle.sheet.proofs.Theorems.{block-cells, read-accepts}
 use Rattle.plot.specs.Grammar.{reading}
 use Rattle.plot.specs.Answers.{checked}
 use Rattle.plot.specs.Numbers.{numberOf, placeOf, payloadNumber, payloadPlace}
@@ -42,7 +43,7 @@ module _ (p : Profile) (sheet : List ℕ) where
   module _ (v : InRange p) (h : Lent p sheet (scratchBuffer p) (payloadBuffer p)) where
     lowest-text : (d number : ℕ) → LowestRefused Burst p sheet d number → sheetText p sheet ≡ refusalText number d
     lowest-text d number o =
-        let n : number ≢ 0 = ⊎-elim (λ z q. let e : number ≡ 3 = z .0 in omega arith) (λ z q. let e : number ≡ 4 = z .0 in omega arith) (o .refused) in
+        let n : number ≢ 0 = block-law Burst p (readBlock p sheet d) v (block-cells p sheet d (h .cells .bytes)) .refused number .1 (o .refused) .1 in
         let q = results p sheet v h .refused d number n .1 o in
         refused-text number d (q .0) (q .1) n
 

@@ -33,7 +33,7 @@ module _ (input : List ℕ) where
     pub profile : 5 ≤ length input → (InRange (inputProfile input) → ⊥) → listed input ≡ refusalText 1 0
     -- "a sheet of other than D × n bytes 2"
     pub frame : 5 ≤ length input → InRange (inputProfile input) → length (drop 5 input) ≢ inputProfile input .depth * inputProfile input .n → listed input ≡ refusalText 2 0
-    -- 3 and 4: the lowest block that is refused, with its number as the place
+    -- 3, 4 and 16: the lowest block that is refused, with its number as the place
     pub blocks : SheetInput → (d number : ℕ) → LowestRefused Burst (inputProfile input) (drop 5 input) d number → listed input ≡ refusalText number d
     -- 5 to 8: all blocks have codewords, and the payload is refused as its check says
     pub records : SheetInput → (words : ℕ → List ℕ) → AllWords Burst (inputProfile input) (drop 5 input) words → payloadNumber (checked (messages words)) ≢ 0

@@ -30,7 +30,7 @@ fn profile_of(input: &[u8]) -> Profile
     }
 }
 
-// A sheet's refusal is at most 11.
+// A sheet's refusal is at most 16.
 fn number(r: Refusal) -> u8
     ensures { λ n. ⌜ n ≡ refusalNumber r ⌝ }
 {

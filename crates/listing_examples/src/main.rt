@@ -33,11 +33,14 @@ fn frames() {
     );
 }
 
-// A sheet whose one block no run reaches, one that two codewords are within, and one whose second block no run reaches.
+// A sheet whose one block no run reaches, one that two codewords are within, and one whose second block no run reaches; one whose block has a run of four
+// cells, of which two are changed, with r = 5, and one whose second block has it.
 fn blocks() {
     list(b"\x04\x03\x00\x00\x01\x09\x0e\x07\x01");
     list(b"\x04\x03\x00\x02\x01\x08\x0e\x00\x00");
     list(b"\x04\x03\x00\x00\x02\x08\x09\x0e\x0e\x07\x07\x01\x01");
+    list(b"\x06\x05\x00\x04\x01\x00\x07\x00\x00\x09\x00");
+    list(b"\x06\x05\x00\x04\x02\x00\x00\x00\x07\x00\x00\x00\x00\x00\x09\x00\x00");
 }
 
 // Payloads that are refused 5, 5, 6, 7 and 8, and one of a plot without lines.

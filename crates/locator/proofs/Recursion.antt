@@ -18,10 +18,10 @@ use Rattle.field.proofs.Product.{mul-zero, zero-mul, ring}
 use Rattle.field.proofs.Power.{mul-ne-zero}
 use Rattle.lists.specs.Bytes.{Bytes}
 use Rattle.code.specs.Poly.{padd, pscale}
-use Rattle.code.specs.Code.{syndrome}
+use Rattle.code.specs.Code.{syndrome, weight}
 use Rattle.lists.proofs.Bytes.{getD-byte, take-bytes}
 use Rattle.code.proofs.Poly.{getD-padd, getD-pscale, padd-bytes, pscale-bytes}
-use Rattle.code.proofs.Distance.{eval-zero, Zero, weight, few-cells}
+use Rattle.code.proofs.Distance.{eval-zero, Zero, few-cells}
 use Rattle.products.specs.Products.{dot}
 use Rattle.erasure.proofs.Dot.{Same, dot-lt, dot-nil, dot-sum, dot-multiple, dot-same}
 use Rattle.erasure.proofs.Weigh.{Syn, weigh, weigh-bytes, weigh-length, weigh-weight, syndrome-weigh}

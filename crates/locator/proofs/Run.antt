@@ -15,10 +15,10 @@ use Rattle.field.proofs.Sum.{add-eq}
 use Rattle.field.proofs.Power.{mul-cancel, mul-eq-zero}
 use Rattle.lists.specs.Bytes.{Bytes}
 use Rattle.code.specs.Poly.{eval}
-use Rattle.code.specs.Code.{syndrome}
+use Rattle.code.specs.Code.{syndrome, weight}
 use Rattle.lists.proofs.Bytes.{getD-byte, zeros-bytes}
 use Rattle.code.proofs.Poly.{eval-lt, getD-zeros}
-use Rattle.code.proofs.Distance.{eval-zero, Zero, zero-at, weight}
+use Rattle.code.proofs.Distance.{eval-zero, Zero, zero-at}
 use Rattle.products.specs.Products.{dot}
 use Rattle.erasure.proofs.Weigh.{Syn, weigh, weigh-at}
 use Rattle.locator.specs.Locator.{Recursion, start, grows, next, turn, masseyFrom, massey, mirrored, locator}

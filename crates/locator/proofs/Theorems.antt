@@ -15,9 +15,9 @@ use Rattle.field.proofs.Sum.{add-self, add-eq}
 use Rattle.field.proofs.Product.{mul-zero, zero-mul}
 use Rattle.lists.specs.Bytes.{Bytes}
 use Rattle.code.specs.Poly.{eval, padd}
-use Rattle.code.specs.Code.{Codeword, syndrome, distance, IsNear}
+use Rattle.code.specs.Code.{Codeword, syndrome, distance, IsNear, weight}
 use Rattle.code.proofs.Poly.{getD-padd, padd-length, padd-bytes}
-use Rattle.code.proofs.Distance.{Zero, weight, distance-weight}
+use Rattle.code.proofs.Distance.{Zero, distance-weight}
 use Rattle.code.proofs.Shifted.{distance-triangle}
 use Rattle.code.proofs.Theorems.{minimum-distance}
 use Rattle.erasure.specs.Erasure.{among, DistinctPlaces, Fills, syndromes, errorWord, filledWord}

@@ -1,7 +1,7 @@
-// The profile of document 01: five numbers, their ranges, and k and h. Every entry on a block or a sheet takes one and refuses it by 1 where it is out of
+// The profile of document 01: five numbers, their ranges, k and h, and the rule on long but thin repairs (document 02, Note 7). Every entry on a block or a sheet takes one and refuses it by 1 where it is out of
 // range; specs/Refusals.antt says of all of them together when the refusals 1 and 2 come.
 ghost use mathlib.Core.Path.{_≡_};
-ghost use Rattle.profile.specs.Profile.{inRange, messageLength, half};
+ghost use Rattle.profile.specs.Profile.{inRange, messageLength, half, isSparse};
 
 /// The five numbers of a profile: cells in a block (n), check cells (r), starting power (b), the longest run that may be
 /// corrected (L, `limit`), and blocks in a sheet (D, `depth`).
@@ -31,6 +31,16 @@ impl Profile {
         ensures { λ r. ⌜ r ≡ half self ⌝ }
     {
         self.r / 2
+    }
+
+    /// Whether a run of `length` cells of which `changed` are changed is thin: longer than half of r, and at most half of it changed.
+    pub fn is_sparse(self, length: usize, changed: usize) -> bool
+        ensures { λ a. ⌜ a ≡ isSparse self length changed ⌝ }
+    {
+        if length <= self.r / 2 {
+            return false;
+        }
+        changed <= length / 2
     }
 
     /// Whether all five numbers are in range.

@@ -6,7 +6,7 @@ ghost use lib.Dec.{eqb};
 ghost use lib.ListN.{getD, take, drop, replicate};
 ghost use Rattle.field.specs.Field.{add};
 ghost use Rattle.code.specs.Poly.{padd, pscale};
-ghost use Rattle.code.specs.Code.{generator};
+ghost use Rattle.code.specs.Code.{generator, weight};
 ghost use Rattle.code.specs.Search.{extent};
 ghost use Rattle.words.specs.Cells.{shiftUp, shiftDown, padTo};
 ghost use Rattle.words.specs.Doubles.{DoublesOf};
@@ -303,6 +303,20 @@ pub fn is_zero(x: Register) -> bool
     ensures { λ r. ⌜ r ≡ eqb (extent (cells x)) 0 ⌝ }
 {
     extent(x) == 0
+}
+
+/// How many cells are not zero.
+pub fn weight(x: Register) -> usize
+    ensures { λ r. ⌜ r ≡ weight (cells x) ⌝ }
+{
+    let cell = low_cells(x);
+    let mut w: usize = 0;
+    let mut i: usize = 0;
+    while i < 64 {
+        w += words::nonzero(cell[i]);
+        i += 1;
+    }
+    w
 }
 
 /// Each cell times a.

@@ -15,12 +15,12 @@ use Rattle.spots.specs.Spots.{spotVerdict, spotWord}
 use Rattle.spots.specs.Nearest.{NearestWord}
 use Rattle.profile.specs.declared.Profile.{Profile}
 use Rattle.block.specs.declared.Verdict.{Verdict}
-use Rattle.block.specs.declared.Verdict.the-variants.{Uncorrectable, Ambiguous, TooManyErrors, CorrectedCells}
+use Rattle.block.specs.declared.Verdict.the-variants.{Uncorrectable, Ambiguous, TooManyErrors, CorrectedCells, Sparse}
 use Rattle.sheet.specs.declared.Mode.{Mode}
 use Rattle.sheet.specs.declared.Mode.the-variants.{Burst, Spots}
 use Rattle.block.proofs.Shortest.{empty-run, word-clean}
 use Rattle.block.proofs.NumberLaws.{verdict-of, verdict-0, verdict-late}
-use Rattle.block.proofs.Verdicts.{clean-one, verdict-none, verdict-two, verdict-one}
+use Rattle.block.proofs.Verdicts.{clean-one, clean-exempt, verdict-none, verdict-two, verdict-sparse, verdict-one}
 use Rattle.block.proofs.Answers.{block-answer}
 use Rattle.block.proofs.LookAndFill.{looks-then-fills}
 use Rattle.spots.proofs.Verdicts.{spot-none, spot-one, spot-near}
@@ -38,9 +38,10 @@ module _ (mode : Mode) (p : Profile) (y : List ℕ) where
 -- ---- burst mode
 
 module _ (p : Profile) (y : List ℕ) where
-  burst-refused : verdictNumber (verdict p y) ≢ 0 → (verdict p y ≡ Uncorrectable) ⊎ (verdict p y ≡ Ambiguous)
+  burst-refused : verdictNumber (verdict p y) ≢ 0 → (verdict p y ≡ Uncorrectable) ⊎ ((verdict p y ≡ Ambiguous) ⊎ (verdict p y ≡ Sparse))
   burst-refused =
-      verdict-of (λ (w : Verdict). verdictNumber w ≢ 0 → (w ≡ Uncorrectable) ⊎ (w ≡ Ambiguous)) (λ n. inl refl) (λ n. inr refl) (λ s f n. absurd (n refl)) p y
+      verdict-of (λ (w : Verdict). verdictNumber w ≢ 0 → (w ≡ Uncorrectable) ⊎ ((w ≡ Ambiguous) ⊎ (w ≡ Sparse))) (λ n. inl refl) (λ n. inr (inl refl))
+      (λ n. inr (inr refl)) (λ s f n. absurd (n refl)) p y
 
   module _ (v : InRange p) (h : Cells p y) where
     burst-changed : verdictNumber (verdict p y) ≡ 0 → (verdictLength (verdict p y) + verdictCount (verdict p y) ≡ 0) ↔ (corrected p y ≡ y)
@@ -48,7 +49,7 @@ module _ (p : Profile) (y : List ℕ) where
         let w = verdict-0 p y q in
         let s : ℕ = verdictStart (verdict p y) in
         let f : ℕ = verdictLength (verdict p y) in
-        let o : OneReached p y s f (corrected p y) = verdict-one p y s f (corrected p y) v h .0 (w, refl) in
+        let o : OneReached p y s f (corrected p y) = verdict-one p y v h s f (corrected p y) .0 (w, refl) .0 in
         let z : verdictCount (verdict p y) ≡ 0 = ap verdictCount w in (
           λ e. empty-run (p .n) (p .r) (p .b) y s (corrected p y) (h .count) (subst (λ (x : ℕ). Reached p y s x (corrected p y)) (let k : f ≡ 0 = omega arith in k) (o .reached)),
           λ e. let k : f ≡ 0 = o .clean e .1 in omega arith,
@@ -59,7 +60,7 @@ module _ (p : Profile) (y : List ℕ) where
         let w = verdict-0 p y q in
         let s : ℕ = verdictStart (verdict p y) in
         let f : ℕ = verdictLength (verdict p y) in
-        let o : OneReached p y s f (corrected p y) = verdict-one p y s f (corrected p y) v h .0 (w, refl) in
+        let o : OneReached p y s f (corrected p y) = verdict-one p y v h s f (corrected p y) .0 (w, refl) .0 in
         let z : verdictCount (verdict p y) ≡ 0 = ap verdictCount w in
         let run : s + f ≤ p .n = o .reached .run in
         (omega (arith, run, v .n-most), omega (arith, run, v .n-most, z))
@@ -71,14 +72,16 @@ module _ (p : Profile) (y : List ℕ) where
     burst-law : BlockLaw Burst p y
     burst-law = record {
       refused = λ number. (
-        λ q. ⊎-elim (λ e. inl (sym (q .0) ∙ ap verdictNumber e, verdict-none p y v h .0 e)) (λ e. inr (sym (q .0) ∙ ap verdictNumber e, verdict-two p y v h .0 e))
+        λ q. ⊎-elim (λ e. inl (sym (q .0) ∙ ap verdictNumber e, verdict-none p y v h .0 e))
+            (⊎-elim (λ e. inr (inl (sym (q .0) ∙ ap verdictNumber e, verdict-two p y v h .0 e))) (λ e. inr (inr (sym (q .0) ∙ ap verdictNumber e, verdict-sparse p y v h .0 e))))
             (burst-refused (λ e. q .1 (sym (q .0) ∙ e))),
         λ r. ⊎-elim (λ n. (ap verdictNumber (verdict-none p y v h .1 (n .1)) ∙ sym (n .0), λ e. let k : number ≡ 3 = n .0 in omega arith))
-            (λ z. (ap verdictNumber (verdict-two p y v h .1 (z .1)) ∙ sym (z .0), λ e. let k : number ≡ 4 = z .0 in omega arith)) r,
+            (⊎-elim (λ z. (ap verdictNumber (verdict-two p y v h .1 (z .1)) ∙ sym (z .0), λ e. let k : number ≡ 4 = z .0 in omega arith))
+            (λ z. (ap verdictNumber (verdict-sparse p y v h .1 (z .1)) ∙ sym (z .0), λ e. let k : number ≡ 16 = z .0 in omega arith))) r,
       );
       accepted = λ c. (
-        λ q. (verdictStart (verdict p y), verdictLength (verdict p y), verdict-one p y _ _ c v h .0 (verdict-0 p y (q .0), q .1)),
-        λ g. let q = verdict-one p y (g .0) (g .1) c v h .1 (g .2) in (ap verdictNumber (q .0), q .1),
+        λ q. (verdictStart (verdict p y), verdictLength (verdict p y), verdict-one p y v h _ _ c .0 (verdict-0 p y (q .0), q .1)),
+        λ g. let q = verdict-one p y v h (g .0) (g .1) c .1 (g .2) in (ap verdictNumber (q .0), q .1),
       );
       changed = burst-changed;
       small = burst-small;
@@ -138,12 +141,12 @@ block-law Spots p y v h = spot-law p y v h
 
 -- a verdict on cells is neither refusal 1 nor 2
 pub late-in : (mode : Mode) (p : Profile) (y : List ℕ) → (verdictNumber (verdictIn mode p y) ≢ 1) × (verdictNumber (verdictIn mode p y) ≢ 2)
-late-in Burst p y = verdict-late p y
+late-in Burst p y = let z = verdict-late p y in (z .not-1, z .not-2)
 late-in Spots p y = spot-late p y
 
 -- a block goes to a codeword
 pub word-of : (mode : Mode) (p : Profile) (y c : List ℕ) → GoesTo mode p y c → Word p c
-word-of Burst p y c g = g .2 .reached .codeword
+word-of Burst p y c g = g .2 .0 .reached .codeword
 word-of Spots p y c g = g .2 .word
 
 -- a codeword goes to itself
@@ -152,5 +155,5 @@ module _ (p : Profile) (y : List ℕ) (v : InRange p) (w : Word p y) where
   whole = record { count = w .cells; bytes = w .bytes }
 
   pub own-word : (mode : Mode) → GoesTo mode p y y
-  own-word Burst = (0, 0, clean-one p y v whole (word-clean p y v whole w))
+  own-word Burst = (0, 0, (clean-one p y v whole (word-clean p y v whole w), clean-exempt p y y))
   own-word Spots = spot-near p y v whole y (record { word = w; within = let z = distance-self y in omega arith })

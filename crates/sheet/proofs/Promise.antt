@@ -77,7 +77,7 @@ module _ (p : Profile) (m : List ℕ) (v : InRange p) (h : Payload p m) where
         let y : List ℕ = readBlock p sheet d in
         let c : Cells p y = block-cells p sheet d (z .cells .bytes) in
         let q = verdict-half p y start size (writtenBlock p m d) v c k (runs.few (p .depth) d l (z .start) (z .size) (half p) (z .short)) reached in
-        (q .0 .0, q .0 .1, verdict-one p y (q .0 .0) (q .0 .1) (writtenBlock p m d) v c .0 (q .0 .2, q .1))
+        (q .0 .0, q .0 .1, verdict-one p y v c (q .0 .0) (q .0 .1) (writtenBlock p m d) .0 (q .0 .2, q .1))
 
   -- at most h cells of each block differ
   few-word : (sheet : List ℕ) → FewErrors p written sheet → (d : ℕ) → d < p .depth → HasWord Spots p sheet d (writtenBlock p m d)

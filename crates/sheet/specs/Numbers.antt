@@ -1,5 +1,5 @@
--- The documents' number, place and values of what reading a sheet answers (E5): "the block number for 3 and 4 on a sheet, .. else 0", and 11 "with 3's order
--- and place" (document 02, Note 1). A value that an answer does not have is 0. What writing a sheet answers is the block crate's `Written`, with its numbers there.
+-- The documents' number, place and values of what reading a sheet answers (E5): "the block number for 3 and 4 on a sheet, .. else 0", 11 "with 3's order
+-- and place" (document 02, Note 1), and 16 "with the block number on a sheet" (Note 7). A value that an answer does not have is 0. What writing a sheet answers is the block crate's `Written`, with its numbers there.
 use Prim.Native.Nat.{ℕ}
 use Rattle.block.specs.Numbers.{verdictNumber}
 use Rattle.sheet.specs.declared.Refusal.{Refusal}

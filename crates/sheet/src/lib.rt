@@ -16,8 +16,8 @@ mod fill;
 mod judge;
 mod numbers;
 
-/// How the blocks of a sheet are read: each goes to the codeword within the shortest run, at most L cells long, or (document 02, Note 1) to the
-/// codeword that differs in the fewest cells, at most h anywhere in the block.
+/// How the blocks of a sheet are read: each goes to the codeword within the shortest run, at most L cells long, unless that is long but thin (document 02,
+/// Note 7), or (Note 1) to the codeword that differs in the fewest cells, at most h anywhere in the block.
 pub enum Mode {
     Burst,
     Spots,

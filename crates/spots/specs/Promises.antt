@@ -44,7 +44,7 @@ abbrev pub LimitFree : Type 0
 LimitFree = (p q : Profile) (y out : List ℕ) → InRange p → InRange q → p .n ≡ q .n → p .r ≡ q .r → p .b ≡ q .b
     → (spotAnswer p y out ≡ spotAnswer q y out) × (spotLeaves p y out ≡ spotLeaves q y out)
 
--- 1 and 2 as everywhere; 11 is the only other refusal ("in this mode instead of 3"), so 3 and 4 never come; the place is 0, the second buffer is unchanged,
+-- 1 and 2 as everywhere; 11 is the only other refusal ("in this mode instead of 3"), so 3, 4 and 16 never come; the place is 0, the second buffer is unchanged,
 -- and the other numbers are 0
 pub record SpotRefusals (p : Profile) (y out : List ℕ) : Type 0 where
   pub early : EarlyRefusals p ((length y ≡ p .n) × (length out ≡ p .n)) (verdictNumber (spotAnswer p y out))

@@ -1,10 +1,10 @@
--- A list of cells brought to n cells with zeros above it: its length, what it is for shorter and for whole lists, and that sums, multiples and
--- shifts are kept. Each law is an induction along the list.
+-- A list of cells brought to n cells with zeros above it: its length, what it is for shorter and for whole lists, and that sums, multiples,
+-- shifts and the weight are kept. Each law is an induction along the list.
 use mathlib.Core.Path.{_≡_, refl, sym, ap, ap₂, _∙_}
 use mathlib.Core.Logic.{⊎-elim}
 use mathlib.Core.List.{List, [], _∷_, _++_}
-use Prim.Native.Nat.{ℕ, zero, suc, _+_, _-_, _≤_, _<_}
-use native.Mathlib.Nat.{suc-inj, le-of-suc-le-suc}
+use Prim.Native.Nat.{ℕ, zero, suc, _+_, _-_, _≤_, _<_, zero-le}
+use native.Mathlib.Nat.{suc-inj, le-of-suc-le-suc, zero-add}
 use native.Mathlib.Omega.{arith}
 use lib.ListN.{length, getD, take, drop, set, replicate, List·getD-eq-default}
 use lib.Seq.{drop-drop, take-all, take-append-le}
@@ -12,6 +12,7 @@ use Rattle.lists.proofs.Test.{lt-or-ge}
 use Rattle.field.specs.Field.{add, mul}
 use Rattle.field.proofs.Sum.{add-self, add-zero-l, add-zero-r}
 use Rattle.field.proofs.Product.{mul-zero}
+use Rattle.code.specs.Code.{nonzero, weight}
 use Rattle.code.specs.Poly.{padd, pscale}
 use Rattle.words.specs.Cells.{shiftUp, shiftDown, padTo}
 
@@ -142,3 +143,11 @@ take-pad k n l h m = ap (take k) (pad-is n l m) ∙ take-append-le k l (replicat
 
 pub pad-off : (n m : ℕ) (l : List ℕ) → length l ≡ n → n ≤ m → take n (padTo m l) ≡ l
 pad-off n m l e h = take-pad n m l (omega arith) (omega arith) ∙ take-all n l (omega arith)
+
+-- zeros above have no weight
+pub weight-pad : (n : ℕ) (R : List ℕ) → length R ≤ n → weight (padTo n R) ≡ weight R
+unfolding weight padTo
+weight-pad zero [] h = refl
+weight-pad zero (x ∷ R) h = absurd (omega arith)
+weight-pad (suc n) [] h = zero-add (weight (padTo n [])) ∙ weight-pad n [] zero-le
+weight-pad (suc n) (x ∷ R) h = ap (λ (w : ℕ). nonzero x + w) (weight-pad n R (le-of-suc-le-suc h))

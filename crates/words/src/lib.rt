@@ -4,6 +4,7 @@
 ghost use mathlib.Core.Path.{_≡_};
 ghost use Prim.Native.Nat.{_*_, _^_, _<_, _≤_, min};
 ghost use lib.ListN.{drop};
+ghost use Rattle.code.specs.Code.{nonzero};
 ghost use Rattle.code.specs.Poly.{padd, pscale};
 ghost use Rattle.code.specs.Search.{extent};
 ghost use Rattle.words.specs.Word.{byte, bytesFrom};
@@ -46,6 +47,16 @@ pub fn word_down(w: u64, above: u64) -> u64
     ensures { λ r. ⌜ bytesFrom 8 0 r ≡ shiftDown (bytesFrom 8 0 w) (byte above 0) ⌝ }
 {
     (w >> 8) ^ (above << 56)
+}
+
+/// 1 for a cell that is not zero, and 0 for one that is.
+pub fn nonzero(c: u8) -> usize
+    ensures { λ r. ⌜ r ≡ nonzero c ⌝ }
+{
+    if c != 0 {
+        return 1;
+    }
+    0
 }
 
 /// The lesser of two counts.

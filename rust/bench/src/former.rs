@@ -4,6 +4,7 @@ use std::hint::black_box;
 
 use bench::blocks::{blocks, Block};
 use bench::Shape;
+use second::random::Random;
 use tishwabe::ffi::{self, Numbers};
 use tishwabe::{Mode, Profile};
 
@@ -93,15 +94,17 @@ enum Work {
     ReadScratched,
     ReadSpots,
     CorrectRun,
+    CorrectLongest,
     CorrectClean,
     Check,
 }
 
-const WORKS: [Work; 6] = [
+const WORKS: [Work; 7] = [
     Work::ReadClean,
     Work::ReadScratched,
     Work::ReadSpots,
     Work::CorrectRun,
+    Work::CorrectLongest,
     Work::CorrectClean,
     Work::Check,
 ];
@@ -111,6 +114,8 @@ struct Bench {
     numbers: Numbers,
     h: usize,
     blocks: Vec<Block>,
+    /// The blocks with a run of r−1 cells wrong, for an L of r−1.
+    longest: Vec<Vec<u8>>,
     sheets: Vec<Sheet>,
     out: Vec<u8>,
     payload: Vec<u8>,
@@ -120,10 +125,12 @@ impl Bench {
     fn new((n, r, depth): (usize, usize, usize)) -> Bench {
         let (b, h) = (1, r / 2);
         let profile = Profile::new(n, r, b, h, depth).expect("the shapes are in range");
+        let blocks = blocks(Shape { n, r, b }, 0, crate::BLOCKS);
         Bench {
             numbers: [n, r, b, h, depth],
             h,
-            blocks: blocks(Shape { n, r, b }, 0, crate::BLOCKS),
+            longest: longest_runs([n, r, b, r - 1, depth], &blocks),
+            blocks,
             sheets: sheets(profile),
             out: vec![0; n],
             payload: vec![0; profile.payload_length()],
@@ -138,6 +145,10 @@ impl Bench {
                 assert_eq!(reader.library.correct(self.numbers, read, &mut self.out).0, 0);
                 assert_eq!(self.out, block.clean);
             }
+        }
+        for (block, read) in self.blocks.iter().zip(&self.longest) {
+            let answer = reader.library.correct(longest_limit(self.numbers), read, &mut self.out);
+            assert_eq!((answer.0, &self.out), (0, &block.clean));
         }
         for sheet in &self.sheets {
             for (mode, read) in [
@@ -158,6 +169,7 @@ impl Bench {
             numbers,
             h,
             blocks,
+            longest,
             sheets,
             out,
             payload,
@@ -178,6 +190,10 @@ impl Bench {
             Work::CorrectRun => each_once(blocks, |block| {
                 assert_eq!(library.correct(numbers, black_box(&block.run), out).2, *h)
             }),
+            Work::CorrectLongest => each_once(longest, |read| {
+                let longest = longest_limit(numbers);
+                assert_eq!(library.correct(longest, black_box(read), out).2, longest[3])
+            }),
             Work::CorrectClean => each_once(blocks, |block| {
                 assert_eq!(library.correct(numbers, black_box(&block.clean), out), (0, 0, 0))
             }),
@@ -194,10 +210,32 @@ impl Bench {
             Work::ReadScratched => format!("reading a sheet with a scratch of {scratch}"),
             Work::ReadSpots => format!("reading a sheet with {h} spots in each block"),
             Work::CorrectRun => format!("correcting a run of {h}"),
+            Work::CorrectLongest => format!("correcting a run of {} with L = r − 1", self.numbers[1] - 1),
             Work::CorrectClean => "correcting a clean block".into(),
             Work::Check => "checking a clean block".into(),
         }
     }
+}
+
+/// The profile with an L of r−1.
+fn longest_limit([n, r, b, _, depth]: Numbers) -> Numbers {
+    [n, r, b, r - 1, depth]
+}
+
+/// The blocks with every cell of a run of L cells wrong. A run is drawn again where another is as short.
+fn longest_runs(numbers: Numbers, blocks: &[Block]) -> Vec<Vec<u8>> {
+    let mut random = Random::new(12);
+    let [n, .., length, _] = numbers;
+    let mut read = |block: &Block| loop {
+        let start = random.between(0, n - length);
+        let mut cells = block.clean.clone();
+        random.change(&mut cells[start..start + length], length);
+        let mut out = vec![0; n];
+        if Linked.correct(numbers, &cells, &mut out) == (0, start, length) && out == block.clean {
+            return cells;
+        }
+    };
+    blocks.iter().map(&mut read).collect()
 }
 
 /// A line for each shape and work.

@@ -62,6 +62,7 @@ pub fn correct_in(mode: Mode, random: &mut Random, p: &Profile, read: &[u8], len
     let answer = outcome(mode.correct(p, read, &mut due), |values| values);
     let found = ffi::correct_block(library_mode(mode), numbers(p), read, &mut out);
     assert_eq!((found, &out), ((answer.0, answer.2, answer.3), &due), "{p:?} {read:?}");
+    assert!(answer.0 == 0 || out == before, "{p:?} {read:?}");
     if let Some(made) = profile(p) {
         out = before;
         let again = match mode {

@@ -40,6 +40,37 @@ pub fn profile(random: &mut Random, size: Size) -> Profile {
     Profile { n, r, b, limit, depth }
 }
 
+/// A profile with an r of 5 and more and an L above half of r: with these a repair may be thin.
+pub fn profile_of_long_runs(random: &mut Random, size: Size) -> Profile {
+    let mut p = profile(random, size);
+    p.r = p.r.max(5);
+    p.n = p.n.max(p.r + 1);
+    p.limit = random.between(p.r / 2 + 1, p.r - 1);
+    p
+}
+
+/// A run longer than half of r, and no longer than L.
+pub fn long_run(random: &mut Random, p: &Profile) -> Run {
+    let length = random.between(p.r / 2 + 1, p.limit);
+    let start = [0, p.n - length, random.between(0, p.n - length)][random.between(0, 2)];
+    Run { start, length }
+}
+
+/// The cells with so many of a run changed, of which the first and the last are two.
+pub fn with_run(random: &mut Random, written: &[u8], run: Run, changed: usize) -> Vec<u8> {
+    let mut cells = written.to_vec();
+    random.change_run(&mut cells[run.start..run.start + run.length], changed);
+    cells
+}
+
+/// The cells with at most half of a long run changed, its first and its last among them: as near to half as that goes, or any number from two on.
+pub fn with_sparse_run(random: &mut Random, p: &Profile, written: &[u8]) -> Vec<u8> {
+    let run = long_run(random, p);
+    let half = (run.length / 2).max(2);
+    let changed = [half, random.between(2, half)][random.between(0, 1)];
+    with_run(random, written, run, changed)
+}
+
 /// A profile with one number out of its range.
 pub fn profile_out_of_range(random: &mut Random) -> Profile {
     let mut p = profile(random, MEDIUM);

@@ -51,6 +51,7 @@ pub fn called(number: usize) -> &'static str {
         "species list",
         "tract full",
         "no plots",
+        "thin",
     ][number]
 }
 

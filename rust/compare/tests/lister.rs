@@ -75,7 +75,7 @@ fn lengths() {
 /// The example sheets, and the inputs whose texts were written by hand.
 #[test]
 fn worked_inputs() {
-    for name in ["written", "torn", "tied", "mould"] {
+    for name in ["written", "torn", "tied", "thin", "mould"] {
         let sheet = std::fs::read(top().join("examples/cruise").join(name).with_extension("sheet"));
         agree(&sheet.expect("the example is there"), 5);
     }

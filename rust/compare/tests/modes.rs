@@ -1,7 +1,8 @@
 //! Mould read in both modes: h single cells changed at random places that span more than L cells. Spot mode brings back every block; scratch mode refuses
-//! it or takes it to a codeword that was not written, the latter often where L is r−1.
+//! it or takes it to a codeword that was not written, the latter often where L is r−1. Such a codeword differs in nearly all cells of its run, so the rule on
+//! thin repairs does not help. Where the spots lie within L cells but over more than r/2, it refuses the right codeword, and spot mode brings that back too.
 
-use compare::block::correct_in;
+use compare::block::{correct_in, written};
 use compare::work::{called, run, Tally};
 use second::random::Random;
 use second::{Mode, Profile};
@@ -21,7 +22,7 @@ fn moulded(random: &mut Random, p: &Profile, block: &[u8]) -> Vec<u8> {
     }
 }
 
-/// What scratch mode makes of the blocks: a wrong codeword, torn or tied. One block in `step` is given to the second decoder too.
+/// What scratch mode makes of the blocks: a wrong codeword, or a refusal. One block in `step` is given to the second decoder too.
 fn scratch_mode(n: usize, r: usize, limit: usize, step: u64) -> Tally {
     let p = Profile::from([n, r, 1, limit, 1]);
     let library = compare::profile(&p).expect("a profile in range");
@@ -74,4 +75,41 @@ fn runs_one_cell_shorter() {
 fn runs_near_half_of_r() {
     let tally = scratch_mode(60, 21, 12, 1);
     assert_eq!(tally.of("torn"), BLOCKS);
+}
+
+/// Four spots within L = r−1 cells. Where they span no more than half of r, scratch mode takes the block to the written codeword; where they span more, it
+/// refuses it as thin, or as tied.
+#[test]
+fn few_spots_close_together() {
+    let p = Profile::from([255, 32, 1, 31, 1]);
+    let tally = run(
+        "mould, n = 255, r = 32, L = 31, 4 spots in 31 cells",
+        BLOCKS,
+        |seed, random, tally| {
+            let block = written(random, &p);
+            let start = random.between(0, p.n - p.limit);
+            let mut read = block.clone();
+            random.change(&mut read[start..start + p.limit], 4);
+            let wrong: Vec<usize> = (0..p.n).filter(|&i| read[i] != block[i]).collect();
+            let long = 2 * (wrong[3] + 1 - wrong[0]) > p.r;
+            let library = compare::profile(&p).expect("a profile in range");
+            let mut out = vec![0; p.n];
+            let changes = library
+                .correct_spots(&read, &mut out)
+                .expect("four spots are put right");
+            assert_eq!((changes.count, &out), (4, &block), "{read:?}");
+            let told = match library.correct_block(&read, &mut out) {
+                Ok(_) if out == block => "as written",
+                Ok(_) => "wrong codeword",
+                Err(error) => called(error.number().into()),
+            };
+            assert_eq!(told == "as written", !long, "{read:?}");
+            tally.count(told);
+            if seed % 200 == 0 {
+                correct_in(Mode::Burst, random, &p, &read, p.n);
+            }
+        },
+    );
+    let [sparse, tied, written] = ["thin", "tied", "as written"].map(|kind| tally.of(kind));
+    assert!(sparse > 8 * tied && 10 * written > BLOCKS, "{sparse} {tied} {written}");
 }

@@ -103,7 +103,7 @@ fn blocks_damaged_one_by_one() {
     }
 }
 
-/// Neither 3 nor 4 in spot mode, no 11 in the other.
+/// Neither 3 nor 4 nor 16 in spot mode, no 11 in the other.
 #[test]
 fn each_mode_has_its_numbers() {
     let tally = run("both modes", 1_500, |_, random, tally| {
@@ -124,7 +124,7 @@ fn each_mode_has_its_numbers() {
     ] {
         assert!(tally.of(kind) > 50, "{kind}");
     }
-    for kind in ["Burst: spotted", "Spots: torn", "Spots: tied"] {
+    for kind in ["Burst: spotted", "Spots: torn", "Spots: tied", "Spots: thin"] {
         assert_eq!(tally.of(kind), 0, "{kind}");
     }
 }
@@ -151,6 +151,7 @@ fn example_sheets() {
         ("scratched", (0, 0, 8, 0)),
         ("torn", (0, 0, 1, 0)),
         ("tied", (11, 5, 0, 0)),
+        ("thin", (0, 0, 1, 0)),
         ("mould", (0, 0, 8, 0)),
     ] {
         let (input, same) = example(name);

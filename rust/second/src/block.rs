@@ -1,10 +1,10 @@
 //! Blocks: profile, codeword test, writing and correction, by brute force.
 //! Writing solves a linear system for the check cells. Correction tries every run in order of length and
-//! solves, for each, the system of its cells against the r syndromes.
+//! solves, for each, the system of its cells against the r syndromes; then, by document 02's Note 7, it counts the cells that the run found would change.
 
 use crate::gf::{add_multiples, power, product};
 use crate::linear::{solve, Elimination, Solutions};
-use crate::refusal::{refuse, Refusal, AMBIGUOUS, BUFFER_LENGTH, NO_CODEWORD, PROFILE_RANGE};
+use crate::refusal::{refuse, Refusal, AMBIGUOUS, BUFFER_LENGTH, NO_CODEWORD, PROFILE_RANGE, SPARSE};
 
 /// Document 01: a profile, with L as `limit` and D as `depth`.
 #[derive(Clone, Copy, Debug, PartialEq, Eq)]
@@ -65,6 +65,14 @@ pub struct Run {
     pub length: usize,
 }
 
+impl Run {
+    /// The number of its cells in which a codeword differs from the read block.
+    pub fn changed(&self, read: &[u8], codeword: &[u8]) -> usize {
+        let cells = self.start..self.start + self.length;
+        cells.filter(|&i| codeword[i] != read[i]).count()
+    }
+}
+
 /// Refusal 2 unless, in each pair, a lent buffer's length is the due one.
 pub fn check_lengths(pairs: &[(usize, usize)]) -> Result<(), Refusal> {
     if pairs.iter().all(|(length, due)| length == due) {
@@ -105,11 +113,11 @@ pub fn write(profile: &Profile, message: &[u8], cells: &mut [u8]) -> Result<(), 
     Ok(())
 }
 
-/// Document 01's mender: the one codeword within a shortest run, and that run.
+/// Document 01's mender: the one codeword within a shortest run, and that run, unless the run is long but thin.
 pub fn correct(profile: &Profile, read: &[u8], corrected: &mut [u8]) -> Result<Run, Refusal> {
     profile.check()?;
     check_lengths(&[(read.len(), profile.n), (corrected.len(), profile.n)])?;
-    let (run, codeword) = search(profile, read)?;
+    let (run, codeword) = judge(profile, read)?;
     corrected.copy_from_slice(&codeword);
     Ok(run)
 }
@@ -118,7 +126,25 @@ pub fn correct(profile: &Profile, read: &[u8], corrected: &mut [u8]) -> Result<R
 pub fn look(profile: &Profile, read: &[u8]) -> Result<Run, Refusal> {
     profile.check()?;
     check_lengths(&[(read.len(), profile.n)])?;
-    search(profile, read).map(|(run, _)| run)
+    judge(profile, read).map(|(run, _)| run)
+}
+
+/// The run that document 01 finds, thin or not, and its codeword.
+pub fn shortest(profile: &Profile, read: &[u8]) -> Result<(Run, Vec<u8>), Refusal> {
+    profile.check()?;
+    check_lengths(&[(read.len(), profile.n)])?;
+    search(profile, read)
+}
+
+/// Document 02, Note 7: what the search finds, or refusal 16 if that run is longer than half of r and not more than half of it would be changed.
+fn judge(profile: &Profile, read: &[u8]) -> Result<(Run, Vec<u8>), Refusal> {
+    let (run, codeword) = search(profile, read)?;
+    let long = 2 * run.length > profile.r;
+    let mostly_wrong = 2 * run.changed(read, &codeword) > run.length;
+    if long && !mostly_wrong {
+        return refuse(SPARSE, 0);
+    }
+    Ok((run, codeword))
 }
 
 /// Tries the lengths in turn and, for each, every start; ends at the first length that reaches a codeword.

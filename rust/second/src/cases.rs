@@ -1,15 +1,19 @@
-//! Examples with answers found by hand: document 01's bench sheet, a table for spot mode, one of runs to fill, one of stand tables, and tables of
-//! refusals with their places; for a bad tally, `refuse_line` has the place, the figure and the line.
+//! Examples with answers found by hand: document 01's bench sheet, a table for spot mode, one of runs to fill, one of long and thin repairs, one of stand
+//! tables, and tables of refusals with their places; for a bad tally, `refuse_line` has the place, the figure and the line.
 //! The unit tests hold the library to them, and the test vectors include their inputs.
 
 mod bad_lines;
 mod fills;
+mod lists;
+mod repairs;
 mod stand;
 
 use crate::block::Profile;
 use crate::plot::record;
 use crate::refusal::{refuse, refuse_line, Refusal};
 pub use fills::{fills, Filling};
+pub use lists::lists;
+pub use repairs::{repair_sheets, repairs, Repair, RepairSheet};
 pub use stand::{tracts, Tract};
 
 /// The codeword and two numbers of a corrected block, or the refusal's number. The numbers are start and length of the run, in spot mode the number
@@ -357,37 +361,5 @@ fn adds_without_room() -> Vec<Add> {
         (after_plot_7(&[0x50]), 0, vec![1], refuse(6, 8)),
         (plots(&[7, 8, 8]), 9, vec![], refuse(8, 16)),
         (record(7, &[0, 0, 0]), 8, vec![], refuse_line(0, 1, 0)),
-    ]
-}
-
-/// Inputs of the lister with their texts: document 01's two, then refusals.
-pub fn lists() -> Vec<(Vec<u8>, &'static str)> {
-    let sheet = [
-        [0xA0, 0x98, 0x0E, 0x00, 0x02, 0x06, 0x40, 0x04],
-        [0xF0, 0xD4, 0x09, 0x00, 0x03, 0x05, 0x60, 0x06],
-        [0x50, 0x4C, 0x07, 0x00, 0x01, 0x03, 0x20, 0x02],
-    ];
-    let profile = [3, 2, 0, 1, 8];
-    let whole = [&profile[..], &sheet.concat()].concat();
-    let erased = [&profile[..], &[0; 8], &sheet[1], &sheet[2]].concat();
-    let strict = [&[3, 2, 0, 0, 8], &erased[5..]].concat();
-    vec![
-        (whole.clone(), "plot,species,class,count\n7,3,32,2\nmended,0\n"),
-        (erased, "plot,species,class,count\n7,3,32,2\nmended,7\n"),
-        (strict, "refused,3,0\n"),
-        (whole[..28].into(), "refused,2,0\n"),
-        ([&whole[..], &[0]].concat(), "refused,2,0\n"),
-        (profile.into(), "refused,2,0\n"),
-        (profile[..4].into(), "refused,1,0\n"),
-        (vec![], "refused,1,0\n"),
-        ([&[3, 3, 0, 1, 8], &whole[5..]].concat(), "refused,1,0\n"),
-        (vec![3, 2, 255, 0, 1], "refused,1,0\n"),
-        (vec![4, 3, 0, 2, 1, 8, 14, 0, 0], "refused,4,0\n"),
-        (vec![4, 3, 0, 2, 2, 8, 9, 14, 14, 7, 7, 1, 0], "refused,3,1\n"),
-        (vec![4, 3, 0, 0, 1, 8, 14, 7, 1], "refused,5,0\n"),
-        (vec![4, 3, 0, 0, 2, 0, 8, 0, 14, 0, 7, 0, 1], "refused,5,0\n"),
-        (vec![4, 3, 0, 2, 2, 8, 0, 15, 0, 6, 0, 1, 0], "refused,5,0\n"),
-        (vec![4, 3, 0, 2, 1, 0, 0, 0, 9], "plot,species,class,count\nmended,1\n"),
-        (vec![3, 2, 0, 0, 1, 0, 0, 0], "plot,species,class,count\nmended,0\n"),
     ]
 }

@@ -56,7 +56,7 @@ pub fn inverse(a: u8) -> Option<u8> {
 pub fn power(exponent: usize) -> u8 {
     (0..8).rev().fold(1, |result, i| {
         let square = product(result, result);
-        match exponent % 255 >> i & 1 {
+        match (exponent % 255) >> i & 1 {
             0 => square,
             _ => product(square, ALPHA),
         }

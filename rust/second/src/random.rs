@@ -48,4 +48,19 @@ impl Random {
             cells[cell] ^= self.nonzero();
         }
     }
+
+    /// Changes exactly so many cells of a run, each another one, the first and the last for certain: no shorter run holds them all. So one of one cell,
+    /// and at least two of more.
+    pub fn change_run(&mut self, run: &mut [u8], count: usize) {
+        let last = run.len() - 1;
+        assert!(count <= run.len() && count >= run.len().min(2));
+        let inner = self.distinct(last.saturating_sub(1), count.saturating_sub(2));
+        run[0] ^= self.nonzero();
+        if last > 0 {
+            run[last] ^= self.nonzero();
+        }
+        for cell in inner {
+            run[1 + cell] ^= self.nonzero();
+        }
+    }
 }

@@ -31,6 +31,8 @@ pub const SPECIES_LIST: u8 = 13;
 pub const TRACT_FULL: u8 = 14;
 /// Document 02, Note 4: "no plots".
 pub const NO_PLOTS: u8 = 15;
+/// Document 02, Note 7: "thin".
+pub const SPARSE: u8 = 16;
 
 /// Document 02, Note 2: what fails in a tally line is its species.
 pub const SPECIES: u8 = 1;

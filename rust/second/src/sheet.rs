@@ -174,6 +174,34 @@ mod tests {
         }
     }
 
+    /// Document 02, Note 7, by hand: in scratch mode the lowest refused block is named, be it thin, torn or tied. Spot mode knows no such rule: it refuses
+    /// a block of more than three changed cells, and a thin one has at most three.
+    #[test]
+    fn sparse_blocks_are_refused_in_their_turn() {
+        for case in cases::repair_sheets() {
+            let Profile { n, r, depth, .. } = case.profile;
+            let wrong = |block: usize| {
+                block_of(&case.profile, &case.cells, block)
+                    .iter()
+                    .filter(|&&x| x != 0)
+                    .count()
+            };
+            let spotted = (0..depth).find(|&block| wrong(block) > r / 2);
+            let spots = match spotted {
+                Some(block) => refuse(NO_CODEWORD_NEAR, block),
+                None => Ok((0..depth).filter(|&block| wrong(block) > 0).count()),
+            };
+            let burst = case.expected.or_else(|(number, block)| refuse(number, block));
+            for (mode, due) in [(Mode::Burst, burst), (Mode::Spots, spots)] {
+                let (mut scratch, mut payload) = (vec![170; n], vec![170; depth * (n - r)]);
+                let result = read_in(mode, &case.profile, &case.cells, &mut scratch, &mut payload);
+                let left = if due.is_ok() { 0 } else { 170 };
+                assert_eq!(result, due);
+                assert_eq!((scratch, payload), (vec![0; n], vec![left; depth * (n - r)]));
+            }
+        }
+    }
+
     #[test]
     fn refusals_1_and_2_leave_every_buffer() {
         for profile in cases::profiles_out_of_range() {

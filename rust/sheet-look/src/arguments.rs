@@ -18,6 +18,7 @@ The table has a line for each block. Blocks and their cells are counted from 0.
              mendable: a fill of this run mends the block
              torn (3): no run of up to L cells can be filled
              tied (4): two fills within equally short runs differ, so neither is taken
+             thin (16): the shortest run has more than r/2 cells, and a fill would change at most half of them, so it is not taken
   start      the first cell of the run
   length     the cells of the run
   changed    the cells that a fill would change; the others of the run stay as they are

@@ -24,6 +24,7 @@ const LEAST_WIDTH: usize = 720;
 
 const DARK: &str = "#222";
 const RUN: &str = "fill=\"#f6bd60\" stroke=\"#222\"";
+const THIN_RUN: &str = "fill=\"#fff\" stroke=\"#222\" stroke-dasharray=\"3 2\"";
 
 /// Where the cells lie.
 struct Frame {
@@ -83,7 +84,7 @@ pub fn svg(profile: &Profile, looks: &[Look]) -> String {
     let frame = Frame::new(profile);
     let width = LEAST_WIDTH.max(frame.x(frame.n) + RIGHT);
     let legend_top = frame.y(frame.depth) + 40;
-    let height = legend_top + 5 * LINE + 8;
+    let height = legend_top + 6 * LINE + 8;
     let parts = [
         format!("{START} xmlns=\"http://www.w3.org/2000/svg\" viewBox=\"0 0 {width} {height}\" width=\"{width}\" height=\"{height}\" role=\"img\" font-family=\"sans-serif\" font-size=\"12\">\n"),
         format!("<title>{}</title>\n<desc>{}</desc>\n", counts(profile, looks), summary(profile, looks)),
@@ -92,7 +93,8 @@ pub fn svg(profile: &Profile, looks: &[Look]) -> String {
         head(profile, looks),
         ticks(&frame),
         rows(&frame, looks),
-        runs(&frame, looks),
+        runs(&frame, looks, "runs", RUN, Look::is_mendable),
+        runs(&frame, looks, "thin-runs", THIN_RUN, |look| look.verdict.is_err()),
         changed(&frame, looks),
         legend(profile, legend_top),
         "</svg>\n".into(),
@@ -100,7 +102,7 @@ pub fn svg(profile: &Profile, looks: &[Look]) -> String {
     parts.concat()
 }
 
-/// A cell, which stands for every cell, and the hatchings of refused blocks: lines for torn, crossed lines for tied.
+/// A cell, which stands for every cell, and the hatchings of refused blocks: lines for torn, crossed lines for tied, dashes for thin.
 fn patterns(frame: &Frame) -> String {
     let pattern = |id, [x, y, width, height]: [usize; 4], content: String| {
         format!("<pattern id=\"{id}\" patternUnits=\"userSpaceOnUse\" x=\"{x}\" y=\"{y}\" width=\"{width}\" height=\"{height}\">{content}</pattern>\n")
@@ -116,6 +118,7 @@ fn patterns(frame: &Frame) -> String {
         pattern("cell", [LEFT, TOP, frame.pitch, ROW], cell),
         pattern("torn", hatching, lines("M-2 2L2-2M0 8L8 0M6 10L10 6")),
         pattern("tied", hatching, lines("M0 8L8 0M0 0L8 8")),
+        pattern("thin", hatching, lines("M0 2h4M4 6h4")),
     ]
     .concat()
 }
@@ -161,6 +164,7 @@ fn rows(frame: &Frame, looks: &[Look]) -> String {
         if let Err(error) = look.verdict {
             let hatching = match error {
                 Error::Ambiguous { .. } => "tied",
+                Error::Sparse { .. } => "thin",
                 _ => "torn",
             };
             let cells = frame.cells(block, 0, frame.n);
@@ -180,11 +184,11 @@ fn rows(frame: &Frame, looks: &[Look]) -> String {
     svg
 }
 
-/// The runs that the looks name, each with a text for the pointer over it.
-fn runs(frame: &Frame, looks: &[Look]) -> String {
-    let mut svg = format!("<g id=\"runs\" {RUN}>\n");
-    for (block, look) in looks.iter().enumerate() {
-        if let Some(run) = look.run() {
+/// The runs of these looks, each with a text for the pointer over it.
+fn runs(frame: &Frame, looks: &[Look], id: &str, style: &str, is_one: impl Fn(&Look) -> bool) -> String {
+    let mut svg = format!("<g id=\"{id}\" {style}>\n");
+    for (block, look) in looks.iter().enumerate().filter(|(_, look)| is_one(look)) {
+        if let Some(run) = look.run {
             let (first, last) = (run.start, run.start + run.length - 1);
             svg += &format!(
                 "<rect {}><title>block {block}: run from cell {first} to {last}, {} to change</title></rect>\n",
@@ -206,7 +210,7 @@ fn marks(id: &str, left: usize, top: usize, pitch: usize, content: &str) -> Stri
     format!("<g{id} transform=\"translate({x} {y}) scale({pitch} {ROW})\" fill=\"{DARK}\" pointer-events=\"none\">\n{content}</g>\n")
 }
 
-/// The cells that fills would change.
+/// The cells that fills would change, those of thin runs too.
 fn changed(frame: &Frame, looks: &[Look]) -> String {
     let mut paths = String::new();
     for (block, look) in looks.iter().enumerate().filter(|(_, look)| !look.changed.is_empty()) {
@@ -218,10 +222,11 @@ fn changed(frame: &Frame, looks: &[Look]) -> String {
 
 fn legend(profile: &Profile, top: usize) -> String {
     let y = |line: usize| top + line * LINE;
-    let cells = |line, fill: &str| {
+    let wide = |line, x: usize, width: usize, fill: &str| {
         let (y, height) = (y(line), ROW - 1);
-        format!("<rect x=\"16\" y=\"{y}\" width=\"31\" height=\"{height}\" {fill}/>\n")
+        format!("<rect x=\"{x}\" y=\"{y}\" width=\"{width}\" height=\"{height}\" {fill}/>\n")
     };
+    let cells = |line, fill| wide(line, 16, 31, fill);
     let plain = "fill=\"#ddd\"";
     let mark = marks("", 26, y(2), 12, &format!("<path d=\"M0 0{MARK}\"/>\n"));
     let limit = profile.limit();
@@ -239,6 +244,10 @@ fn legend(profile: &Profile, top: usize) -> String {
         (
             cells(4, plain) + &cells(4, "fill=\"url(#tied)\""),
             "a refused block, tied (4): two fills within equally short runs differ".into(),
+        ),
+        (
+            cells(5, plain) + &cells(5, "fill=\"url(#thin)\"") + &wide(5, 24, 15, THIN_RUN),
+            "a refused block, thin (16): a fill would change at most half of its run, longer than r/2".into(),
         ),
     ];
     let mut svg = String::new();

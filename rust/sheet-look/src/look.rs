@@ -3,10 +3,12 @@
 use sheet_file::Sheet;
 use tishwabe::{Error, Profile, Run};
 
-/// What a look says of a block, and the cells that a fill of its run would change.
+/// What a look says of a block, its run, and the cells that a fill of the run would change.
 #[derive(Debug, PartialEq)]
 pub struct Look {
-    pub verdict: Result<Run, Error>,
+    pub verdict: Result<(), Error>,
+    /// The run of a block that can be mended, and that of a thin one, which is refused; 0 and 0 of a clean one.
+    pub run: Option<Run>,
     pub changed: Vec<usize>,
 }
 
@@ -20,39 +22,56 @@ pub fn looks(sheet: &Sheet) -> Vec<Look> {
 
 impl Look {
     fn at(profile: &Profile, read: &[u8]) -> Look {
-        match filled(profile, read) {
-            Ok((run, cells)) => Look {
-                verdict: Ok(run),
-                changed: (0..read.len()).filter(|&i| cells[i] != read[i]).collect(),
-            },
-            Err(error) => Look {
-                verdict: Err(error),
-                changed: vec![],
-            },
+        let looked = profile.look_block(read);
+        let run = match looked {
+            Ok(run) => Some(run),
+            Err(Error::Sparse { .. }) => sparse_run(profile, read),
+            Err(_) => None,
+        };
+        Look {
+            verdict: looked.map(|_| ()),
+            run,
+            changed: run.map_or(vec![], |run| changed(profile, read, run)),
         }
     }
 
-    /// The run of a block that can be mended.
-    pub fn run(&self) -> Option<Run> {
-        self.verdict.ok().filter(|run| run.length > 0)
+    /// Whether there is something to mend, and it can be mended.
+    pub fn is_mendable(&self) -> bool {
+        self.verdict.is_ok() && !self.changed.is_empty()
+    }
+
+    /// The cells that mending would change: none of a block that is refused.
+    pub fn mended(&self) -> &[usize] {
+        self.verdict.map_or(&[], |()| &self.changed[..])
     }
 
     /// The documents' word for the verdict, with the number of a refusal. What they call mended is not mended by a look.
     pub fn word(&self) -> String {
         match self.verdict {
-            Ok(run) if run.length == 0 => "clean".into(),
-            Ok(_) => "mendable".into(),
+            Ok(()) if self.is_mendable() => "mendable".into(),
+            Ok(()) => "clean".into(),
             Err(error) => format!("{} ({})", error.called(), error.number()),
         }
     }
 }
 
-/// The run that the look names, and the cells of its fill.
-fn filled(profile: &Profile, read: &[u8]) -> Result<(Run, Vec<u8>), Error> {
-    let run = profile.look_block(read)?;
-    let mut cells = vec![0; read.len()];
-    profile.fill_block(read, run, &mut cells)?;
-    Ok((run, cells))
+/// The cells that a fill of this run would change, none if it cannot be filled.
+fn changed(profile: &Profile, read: &[u8], run: Run) -> Vec<usize> {
+    let mut cells = read.to_vec();
+    // What is refused is left as it was.
+    let _ = profile.fill_block(read, run, &mut cells);
+    (0..read.len()).filter(|&i| cells[i] != read[i]).collect()
+}
+
+/// The run of a thin block, which the look does not name. At most half of its cells, fewer than r, are wrong, so at most h, and spot mode finds their codeword.
+fn sparse_run(profile: &Profile, read: &[u8]) -> Option<Run> {
+    let mut cells = read.to_vec();
+    profile.correct_spots(read, &mut cells).ok()?;
+    let differs = |&i: &usize| cells[i] != read[i];
+    let start = (0..read.len()).find(differs)?;
+    let last = (0..read.len()).rfind(differs)?;
+    let length = last + 1 - start;
+    Some(Run { start, length })
 }
 
 #[cfg(test)]
@@ -65,7 +84,7 @@ mod tests {
         let look = |limit, read: [u8; 4]| {
             let profile = Profile::new(4, 3, 0, limit, 1).expect("in range");
             let look = Look::at(&profile, &read);
-            let run = look.verdict.map_or((0, 0), |run| (run.start, run.length));
+            let run = look.run.map_or((0, 0), |run| (run.start, run.length));
             (look.word(), run, look.changed)
         };
         assert_eq!(look(0, [8, 14, 7, 1]), ("clean".into(), (0, 0), vec![]));
@@ -85,7 +104,32 @@ mod tests {
         read[4] ^= 1;
         read[6] ^= 9;
         let look = Look::at(&profile, &read);
-        assert_eq!(look.run(), Some(Run { start: 4, length: 3 }));
+        assert_eq!(look.run, Some(Run { start: 4, length: 3 }));
         assert_eq!(look.changed, [4, 6]);
+        assert_eq!((look.word().as_str(), look.mended()), ("mendable", &[4, 6][..]));
+    }
+
+    /// A run of four cells with r = 6: with three wrong cells it is mended, with two it is thin, and mending changes nothing.
+    #[test]
+    fn a_thin_run() {
+        let profile = Profile::new(9, 6, 1, 5, 1).expect("in range");
+        let mut read = vec![0; 9];
+        profile.write_block(&[1, 2, 3], &mut read).expect("the lengths fit");
+        for cell in [4, 5, 7] {
+            read[cell] ^= 9;
+        }
+        let run = Some(Run { start: 4, length: 4 });
+        let look = Look::at(&profile, &read);
+        assert_eq!(
+            (look.word().as_str(), look.run, &look.changed[..]),
+            ("mendable", run, &[4, 5, 7][..])
+        );
+        read[5] ^= 9;
+        let look = Look::at(&profile, &read);
+        assert_eq!(
+            (look.word().as_str(), look.run, &look.changed[..]),
+            ("thin (16)", run, &[4, 7][..])
+        );
+        assert!(!look.is_mendable() && look.mended().is_empty());
     }
 }

@@ -1,5 +1,6 @@
 //! Makes the sheets of examples/cruise: a cruise of a dozen plots, the same sheet scratched within the promise, one with a torn block,
-//! one with a tied block, and one with mould. Each file is an input of the plot lister: the profile's five bytes, then the sheet.
+//! one with a tied block, one with a thin block, and one with mould. Each file is an input of the plot lister: the profile's five bytes, then the
+//! sheet.
 //!
 //! `cargo run --offline --example cruise -- FOLDER` writes them.
 
@@ -24,7 +25,7 @@ fn payload() -> Result<Vec<u8>, Error> {
     Ok(payload)
 }
 
-fn sheets() -> Result<[(&'static str, Vec<u8>); 5], Error> {
+fn sheets() -> Result<[(&'static str, Vec<u8>); 6], Error> {
     let written = written(&payload()?)?;
     // block 3 wrong in cells far apart
     let mut uncorrectable = written.clone();
@@ -41,12 +42,18 @@ fn sheets() -> Result<[(&'static str, Vec<u8>); 5], Error> {
     for (i, value) in generator[..11].iter().enumerate() {
         ambiguous[cell(i, 5)] ^= value;
     }
+    // block 6 wrong in half of twelve cells, which is more than r/2
+    let mut sparse = written.clone();
+    for i in [20, 22, 25, 26, 29, 31] {
+        sparse[cell(i, 6)] ^= 0x5A;
+    }
     Ok([
         ("mould", with_mould(&written)),
         ("scratched", with_scratch(&written, 133)),
         ("written", written),
         ("torn", uncorrectable),
         ("tied", ambiguous),
+        ("thin", sparse),
     ])
 }
 

@@ -74,6 +74,8 @@ impl fmt::Display for LineFault {
 /// let tract = Error::TractFull.to_string();
 /// assert_eq!(tract, "tract full: a payload beyond 1,000, or a cell or counter above 400,000,000 (refusal 14, place 0)");
 /// assert_eq!(Error::NoPlots.to_string(), "no plots: no record was added (refusal 15, place 0)");
+/// let sparse = Error::Sparse { block: 2 }.to_string();
+/// assert_eq!(sparse, "thin: a run of more than r/2 cells, of which at most half would be changed (refusal 16, place 2)");
 ///
 /// let outside_a_line = Error::BadTally { place: 12, line: None };
 /// assert_eq!(outside_a_line.to_string(), "bad tally (refusal 7, place 12)");
@@ -145,10 +147,21 @@ pub enum Error {
     TractFull,
     /// 15, "no plots", of the trees per plot only: no record was added.
     NoPlots,
+    /// 16, "thin", in scratch mode only: the shortest run that reaches a codeword is longer than half of r, and at most half of its cells would be changed.
+    /// The block is 0 for a lone block. Earlier versions accepted such a run. [`Profile::fill_block`] still fills it where it is named, and in spot mode
+    /// ([`Profile::correct_spots`], [`Mode::Spots`]) the block goes to the same codeword, which differs in at most h cells.
+    ///
+    /// [`Profile::fill_block`]: crate::Profile::fill_block
+    /// [`Profile::correct_spots`]: crate::Profile::correct_spots
+    /// [`Mode::Spots`]: crate::Mode::Spots
+    Sparse {
+        /// The number of the block.
+        block: usize,
+    },
 }
 
 impl Error {
-    /// Its number, 1 to 10 in document 01, 11 to 15 in document 02.
+    /// Its number, 1 to 10 in document 01, 11 to 16 in document 02.
     pub fn number(self) -> u8 {
         match self {
             Error::BadProfile => 1,
@@ -166,6 +179,7 @@ impl Error {
             Error::SpeciesList => 13,
             Error::TractFull => 14,
             Error::NoPlots => 15,
+            Error::Sparse { .. } => 16,
         }
     }
 
@@ -174,7 +188,10 @@ impl Error {
         match self {
             Error::BadProfile | Error::WrongLength | Error::NoSuchPlot | Error::BadSpan => 0,
             Error::SpeciesList | Error::TractFull | Error::NoPlots => 0,
-            Error::Uncorrectable { block } | Error::Ambiguous { block } | Error::TooManyErrors { block } => block,
+            Error::Uncorrectable { block }
+            | Error::Ambiguous { block }
+            | Error::TooManyErrors { block }
+            | Error::Sparse { block } => block,
             Error::BadMark { place }
             | Error::CutShort { place }
             | Error::BadTally { place, .. }
@@ -227,6 +244,7 @@ impl Error {
             Error::SpeciesList => "species list",
             Error::TractFull => "tract full",
             Error::NoPlots => "no plots",
+            Error::Sparse { .. } => "thin",
         }
     }
 }
@@ -240,6 +258,9 @@ impl fmt::Display for Error {
             Error::SpeciesList => f.write_str(": a number outside 1 to 99, a repeat, or more than 16")?,
             Error::TractFull => f.write_str(": a payload beyond 1,000, or a cell or counter above 400,000,000")?,
             Error::NoPlots => f.write_str(": no record was added")?,
+            Error::Sparse { .. } => {
+                f.write_str(": a run of more than r/2 cells, of which at most half would be changed")?
+            }
             Error::BadTally {
                 place,
                 line: Some(fault),
@@ -263,7 +284,7 @@ pub(crate) fn accepted<T>(number: usize, place: usize, value: T) -> Result<T, Er
     payload_accepted(answer, value)
 }
 
-/// The value, unless the number is a refusal's. The library answers no number above 15.
+/// The value, unless the number is a refusal's. The library answers no number above 16.
 pub(crate) fn payload_accepted<T>(answer: PayloadAnswer, value: T) -> Result<T, Error> {
     let PayloadAnswer { place, line: index, .. } = answer;
     Err(match answer.number {
@@ -285,6 +306,7 @@ pub(crate) fn payload_accepted<T>(answer: PayloadAnswer, value: T) -> Result<T, 
         12 => Error::BadSpan,
         13 => Error::SpeciesList,
         14 => Error::TractFull,
-        _ => Error::NoPlots,
+        15 => Error::NoPlots,
+        _ => Error::Sparse { block: place },
     })
 }

@@ -101,6 +101,8 @@ pub fn list_refusal(error: Error) -> String {
 /// assert_eq!(tishwabe::list_input(&scratched), "plot,species,class,count\n7,3,32,2\nmended,7\n");
 /// assert_eq!(tishwabe::list_input(&scratched[..28]), "refused,2,0\n");
 /// assert_eq!(tishwabe::list_input(&[3, 2, 0, 1]), "refused,1,0\n");
+/// let sparse = [6, 5, 0, 4, 1, 0, 7, 0, 0, 9, 0];
+/// assert_eq!(tishwabe::list_input(&sparse), "refused,16,0\n");
 /// ```
 pub fn list_input(input: &[u8]) -> String {
     // A payload of 4,048 bytes has at most 1,349 lines of 17 bytes; header and last line, `mended,16`, have at most 35.

@@ -33,7 +33,8 @@ pub struct Changes {
 /// How a sheet is read: which codeword a block goes to.
 #[derive(Clone, Copy, Debug, PartialEq, Eq, Hash)]
 pub enum Mode {
-    /// Scratch mode, as the pages call it, document 01: the codeword within the shortest run of up to L cells. Refusals 3 and 4.
+    /// Scratch mode, as the pages call it, document 01: the codeword within the shortest run of up to L cells, unless that run is long but thin. Refusals
+    /// 3, 4 and 16.
     Burst,
     /// Spot mode, document 02: the codeword that differs in the fewest cells, up to h anywhere; L has no effect. Refusal 11.
     Spots,
@@ -142,6 +143,9 @@ impl Profile {
     /// Corrects a block in scratch mode: n cells read, and the codeword within the shortest run of up to L cells written to the n bytes of
     /// `out`. A refusal leaves `out` as it was.
     ///
+    /// A run of more than r/2 cells is accepted only if more than half of its cells would be changed, and is [`Error::Sparse`] if not; no longer run is
+    /// taken in its place. Earlier versions accepted it. A run of up to r/2 cells, and so of up to h, is accepted as ever.
+    ///
     /// ```
     /// use tishwabe::{Error, Profile, Run};
     /// let profile = Profile::new(4, 3, 0, 2, 1)?;
@@ -150,6 +154,12 @@ impl Profile {
     /// assert_eq!(out, [8, 14, 7, 1]);
     /// assert_eq!(profile.correct_block(&[8, 14, 0, 0], &mut out), Err(Error::Ambiguous { block: 0 }));
     /// assert_eq!(profile.correct_block(&[9, 14, 7, 0], &mut out), Err(Error::Uncorrectable { block: 0 }));
+    ///
+    /// // From the first wrong cell to the last these are runs of four cells, more than half of r.
+    /// let profile = Profile::new(6, 5, 0, 4, 1)?;
+    /// let mut out = [0; 6];
+    /// assert_eq!(profile.correct_block(&[0, 7, 8, 0, 9, 0], &mut out), Ok(Run { start: 1, length: 4 }));
+    /// assert_eq!(profile.correct_block(&[0, 7, 0, 0, 9, 0], &mut out), Err(Error::Sparse { block: 0 }));
     /// # Ok::<(), Error>(())
     /// ```
     pub fn correct_block(&self, read: &[u8], out: &mut [u8]) -> Result<Run, Error> {
@@ -172,6 +182,8 @@ impl Profile {
     /// assert_eq!(profile.look_block(&[8, 14, 7, 1]), Ok(Run { start: 0, length: 0 }));
     /// assert_eq!(profile.look_block(&[8, 14, 0, 0]), Err(Error::Ambiguous { block: 0 }));
     /// assert_eq!(profile.look_block(&[9, 14, 7, 0]), Err(Error::Uncorrectable { block: 0 }));
+    /// let profile = Profile::new(6, 5, 0, 4, 1)?;
+    /// assert_eq!(profile.look_block(&[0, 7, 0, 0, 9, 0]), Err(Error::Sparse { block: 0 }));
     /// # Ok::<(), Error>(())
     /// ```
     pub fn look_block(&self, read: &[u8]) -> Result<Run, Error> {
@@ -181,8 +193,8 @@ impl Profile {
 
     /// Fills a run of a block: n cells read, and the one codeword that agrees with them outside the run written to the n bytes of `out`. Any
     /// run within the block of at most r − 1 cells may be named, the empty one at cell n too; L has no effect. Any other start and length is
-    /// [`Error::BadSpan`], however large they are. [`Error::Uncorrectable`] says that this one run reaches no codeword. A refusal leaves `out` as
-    /// it was.
+    /// [`Error::BadSpan`], however large they are. [`Error::Uncorrectable`] says that this one run reaches no codeword. How many cells of the run would
+    /// be changed has no effect: a run that the look refuses as [`Error::Sparse`] is filled. A refusal leaves `out` as it was.
     ///
     /// ```
     /// use tishwabe::{Error, Profile, Run};
@@ -200,6 +212,13 @@ impl Profile {
     /// assert_eq!(profile.fill_block(&read, Run { start: 4, length: 0 }, &mut out), torn);
     /// assert_eq!(profile.fill_block(&read, Run { start: 4, length: 1 }, &mut out), Err(Error::BadSpan));
     /// assert_eq!(profile.fill_block(&read, Run { start: 0, length: 3 }, &mut out), Err(Error::BadSpan));
+    ///
+    /// // Two wrong cells of four: a look refuses it.
+    /// let (profile, read) = (Profile::new(6, 5, 0, 4, 1)?, [0, 7, 0, 0, 9, 0]);
+    /// assert_eq!(profile.look_block(&read), Err(Error::Sparse { block: 0 }));
+    /// let mut out = [9; 6];
+    /// profile.fill_block(&read, Run { start: 1, length: 4 }, &mut out)?;
+    /// assert_eq!(out, [0; 6]);
     /// # Ok::<(), Error>(())
     /// ```
     pub fn fill_block(&self, read: &[u8], run: Run, out: &mut [u8]) -> Result<(), Error> {
@@ -240,7 +259,8 @@ impl Profile {
     /// Reads a sheet of D × n cells in scratch mode into a payload of D × k bytes: the number of blocks changed. The buffer `scratch` of n bytes
     /// ([`Profile::scratch_length`]) is all zero afterwards, unless the lengths are refused. A refusal leaves `payload` as it was.
     ///
-    /// Earlier versions took a scratch of D × n bytes. That is now [`Error::WrongLength`], unless D is 1; all else is as it was.
+    /// Earlier versions took a scratch of D × n bytes. That is now [`Error::WrongLength`], unless D is 1. They also accepted a sheet with a block whose run is
+    /// long but thin ([`Profile::correct_block`]). That is now [`Error::Sparse`]; [`Mode::Spots`] may read it. A scratch of up to D × h cells is no such case.
     ///
     /// ```
     /// use tishwabe::{Error, Profile};
@@ -252,6 +272,10 @@ impl Profile {
     /// assert_eq!(profile.read_sheet(&sheet, &mut [0; 8], &mut payload), Err(Error::WrongLength));
     /// let torn = [8, 9, 14, 14, 7, 7, 1, 0];
     /// assert_eq!(profile.read_sheet(&torn, &mut scratch, &mut payload), Err(Error::Uncorrectable { block: 1 }));
+    ///
+    /// let profile = Profile::new(6, 5, 0, 4, 2)?;
+    /// let sparse = [0, 0, 0, 7, 0, 0, 0, 0, 0, 9, 0, 0];
+    /// assert_eq!(profile.read_sheet(&sparse, &mut [0; 6], &mut payload), Err(Error::Sparse { block: 1 }));
     /// # Ok::<(), Error>(())
     /// ```
     pub fn read_sheet(&self, sheet: &[u8], scratch: &mut [u8], payload: &mut [u8]) -> Result<usize, Error> {

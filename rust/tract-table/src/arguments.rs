@@ -19,8 +19,8 @@ Adds the plots of the film sheets of a tract to one stand table, trees by specie
   --help          prints this
 
 First comes a line for each sheet: its plots, its trees, and how many of its blocks were mended; or why it is not in the table, with the number and
-the place of the refusal. For torn (3), tied (4) and spotted (11) the place is the block's number, for 5 to 8 it is a byte of the payload. Up to
-1,000 sheets go into a table. A plot that is on two sheets counts twice, and so does a sheet that is named twice.
+the place of the refusal. For torn (3), tied (4), spotted (11) and thin (16) the place is the block's number, for 5 to 8 it is a byte of the payload.
+Up to 1,000 sheets go into a table. A plot that is on two sheets counts twice, and so does a sheet that is named twice.
 
 Then comes the table. Its headings are diameter classes in centimetres; columns without a tree are left out, and of more than ten the rest follow
 below. Last come all trees, all plots, and the trees per plot: a whole number, and how many trees that leaves over.

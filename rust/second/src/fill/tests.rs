@@ -1,12 +1,12 @@
 //! The fill by the words of Note 3: against a table made by hand, against all codewords, and beside the mender.
 
 use super::*;
-use crate::block::{correct, look, write};
+use crate::block::{correct, look, shortest, write};
 use crate::cases;
 use crate::codewords::all_codewords;
 use crate::generator::generator;
 use crate::random::Random;
-use crate::refusal::{AMBIGUOUS, BUFFER_LENGTH, PROFILE_RANGE};
+use crate::refusal::{AMBIGUOUS, BUFFER_LENGTH, PROFILE_RANGE, SPARSE};
 
 const UNTOUCHED: u8 = 170;
 
@@ -200,13 +200,13 @@ fn the_order_of_refusals() {
     assert_eq!(cells, [UNTOUCHED; 9]);
 }
 
-/// Where the look accepts, its fill leaves what the mender leaves, and answers are the same.
+/// Where the look accepts, its fill leaves what the mender leaves, and answers are the same. A run that both call thin is filled all the same.
 #[test]
 fn a_look_and_its_fill_are_the_mender() {
     let mut random = Random::new(75);
-    let mut counts = [0; 5];
-    for _ in 0..600 {
-        let r = random.between(2, 6);
+    let mut counts = [0; 17];
+    for _ in 0..1_500 {
+        let r = random.between(2, 8);
         let n = random.between(r + 1, 12);
         let limit = random.between(0, r - 1);
         let profile = Profile::from([n, r, random.between(0, 254), limit, 1]);
@@ -218,8 +218,11 @@ fn a_look_and_its_fill_are_the_mender() {
         assert_eq!(look(&profile, &read), result);
         if let Ok(Run { start, length }) = result {
             assert_eq!(outcome(&profile, &read, start, length), accepted(&corrected));
+        } else if result == refuse(SPARSE, 0) {
+            let (Run { start, length }, codeword) = shortest(&profile, &read).unwrap();
+            assert_eq!(outcome(&profile, &read, start, length), accepted(&codeword));
         }
         counts[result.map_or_else(|refusal| usize::from(refusal.number), |_| 0)] += 1;
     }
-    assert!(counts[0] > 200 && counts[3] > 200, "{counts:?}");
+    assert!(counts[0] > 200 && counts[3] > 200 && counts[16] > 10, "{counts:?}");
 }

@@ -3,7 +3,7 @@
 use std::collections::BTreeSet;
 use std::fs;
 
-use crate::expected;
+use crate::expected::{self, Expected};
 use crate::run::{example, folder, names, table_and_drawing, PROGRAM};
 use crate::xml::{elements, Element};
 
@@ -35,26 +35,44 @@ fn covered(rectangle: &Element, frame: &Element, n: usize) -> BTreeSet<Cell> {
     cells.map(|cell| (block, cell)).collect()
 }
 
+/// What should be drawn: marked cells, runs that can be mended and thin ones, and blocks that are torn, tied and thin.
+#[derive(Default)]
+struct Due {
+    cells: BTreeSet<Cell>,
+    runs: [BTreeSet<Cell>; 2],
+    refused: [BTreeSet<Cell>; 3],
+}
+
+fn due(input: &[u8]) -> Due {
+    let mut due = Due::default();
+    for (block, expected) in expected::blocks(input).iter().enumerate() {
+        let all = || (0..usize::from(input[0])).map(|cell| (block, cell));
+        let (found, is_sparse) = match expected {
+            Expected::Accepted(found) => (found, false),
+            Expected::Sparse(found) => (found, true),
+            Expected::Refused(number) => {
+                due.refused[usize::from(number - 3)].extend(all());
+                continue;
+            }
+        };
+        let (run, changed) = found;
+        due.runs[usize::from(is_sparse)].extend((run.start..run.start + run.length).map(|cell| (block, cell)));
+        due.cells.extend(changed.iter().map(|&cell| (block, cell)));
+        due.refused[2].extend(all().filter(|_| is_sparse));
+    }
+    due
+}
+
 /// Marks, runs and hatchings are what the second decoder makes of the sheet, and there are as many marks as the table says.
 fn held(name: &str, input: &[u8]) {
     let (text, drawing) = table_and_drawing(name, input);
     let elements = elements(&drawing);
-    let [mut cells, mut runs] = [BTreeSet::new(), BTreeSet::new()];
-    let mut refused = [BTreeSet::new(), BTreeSet::new()];
     let n = usize::from(input[0]);
-    for (block, due) in expected::blocks(input).iter().enumerate() {
-        match due {
-            Ok((run, changed)) => {
-                runs.extend((run.start..run.start + run.length).map(|cell| (block, cell)));
-                cells.extend(changed.iter().map(|&cell| (block, cell)));
-            }
-            Err(number) => refused[usize::from(number - 3)].extend((0..n).map(|cell| (block, cell))),
-        }
-    }
+    let Due { cells, runs, refused } = due(input);
     let marks = marks(&elements);
     let in_table: usize = text
         .lines()
-        .filter_map(|line| line.get(32..)?.trim().parse::<usize>().ok())
+        .filter_map(|line| line.get(33..)?.trim().parse::<usize>().ok())
         .sum();
     assert_eq!((marks.len(), marks.into_iter().collect()), (in_table, cells));
     let frame = elements
@@ -65,9 +83,9 @@ fn held(name: &str, input: &[u8]) {
         let found = elements.iter().filter(|e| e.name == "rect" && is(e));
         found.flat_map(|e| covered(e, frame, n)).collect()
     };
-    assert_eq!(all(&|e| e.inside == "runs"), runs);
-    let hatched = |fill: &str| all(&|e| e.get("fill") == fill && e.number("x") == frame.number("x"));
-    assert_eq!(["url(#torn)", "url(#tied)"].map(hatched), refused);
+    assert_eq!(["runs", "thin-runs"].map(|id| all(&|e| e.inside == id)), runs);
+    let hatched = |word: &str| all(&|e| e.get("fill") == format!("url(#{word})") && e.number("x") == frame.number("x"));
+    assert_eq!(["torn", "tied", "thin"].map(hatched), refused);
     marks_in_their_cells(&elements, frame, n);
     labels(&elements, frame, &text);
     ticks(&elements, frame, n);
@@ -97,7 +115,7 @@ fn labels(elements: &[Element], frame: &Element, table: &str) {
     for (block, line) in table.lines().skip(1).take(rows).enumerate() {
         let top = frame.number("y") + block * 20;
         let found: Vec<&str> = texts(elements, top, top + 20).map(|e| e.text.as_str()).collect();
-        assert_eq!(found, [&format!("block {block}"), line[7..15].trim_end()]);
+        assert_eq!(found, [&format!("block {block}"), line[7..16].trim_end()]);
     }
 }
 
@@ -117,14 +135,14 @@ fn ticks(elements: &[Element], frame: &Element, n: usize) {
 
 #[test]
 fn examples() {
-    for name in ["written", "scratched", "torn", "tied", "mould"] {
+    for name in ["written", "scratched", "torn", "tied", "thin", "mould"] {
         held(&format!("drawn-{name}"), &example(name));
     }
 }
 
 #[test]
 fn as_the_second_decoder() {
-    for input in expected::drawn(60) {
+    for input in expected::drawn(80) {
         held("drawn", &input);
     }
 }
@@ -142,7 +160,7 @@ fn longest() {
 /// Every text is inside the drawing, at no more than 7 units a letter.
 #[test]
 fn texts_fit() {
-    for input in [example("torn"), expected::longest(), vec![3, 2, 0, 1, 1, 0, 0, 0]] {
+    for input in [example("thin"), expected::longest(), vec![3, 2, 0, 1, 1, 0, 0, 0]] {
         let (_, drawing) = table_and_drawing("texts_fit", &input);
         let elements = elements(&drawing);
         let (width, height) = (elements[0].number("width"), elements[0].number("height"));

@@ -4,8 +4,35 @@ use second::generator::generator;
 use second::random::Random;
 use second::{block, sheet, Profile, Run};
 
-/// A block that can be mended or is clean: its run and the cells in which its codeword differs; or the refusal's number.
-pub type Expected = Result<(Run, Vec<usize>), u8>;
+/// The run of a block and the cells in which its codeword differs.
+pub type Found = (Run, Vec<usize>);
+
+/// A block that can be mended or is clean, one that is thin, or the number of another refusal.
+pub enum Expected {
+    Accepted(Found),
+    Sparse(Found),
+    Refused(u8),
+}
+
+impl Expected {
+    /// The program's word for a refusal, with its number.
+    pub fn refusal(&self) -> Option<&'static str> {
+        match self {
+            Expected::Accepted(_) => None,
+            Expected::Sparse(_) => Some("thin (16)"),
+            Expected::Refused(3) => Some("torn (3)"),
+            Expected::Refused(_) => Some("tied (4)"),
+        }
+    }
+
+    /// What a reader would change, if it does not refuse the block.
+    pub fn accepted(&self) -> Option<&Found> {
+        match self {
+            Expected::Accepted(found) => Some(found),
+            _ => None,
+        }
+    }
+}
 
 /// The profile and the cells of an input.
 fn parts(input: &[u8]) -> (Profile, &[u8]) {
@@ -18,10 +45,14 @@ pub fn blocks(input: &[u8]) -> Vec<Expected> {
     let (profile, cells) = parts(input);
     let expected = |number| {
         let read: Vec<u8> = (0..profile.n).map(|i| cells[i * profile.depth + number]).collect();
-        let mut codeword = vec![0; profile.n];
-        match block::correct(&profile, &read, &mut codeword) {
-            Ok(run) => Ok((run, (0..profile.n).filter(|&i| codeword[i] != read[i]).collect())),
-            Err(refusal) => Err(refusal.number),
+        let found = block::shortest(&profile, &read).map(|(run, codeword)| {
+            let changed = (0..profile.n).filter(|&i| codeword[i] != read[i]);
+            (run, changed.collect())
+        });
+        match (block::look(&profile, &read), found) {
+            (Ok(_), Ok(found)) => Expected::Accepted(found),
+            (Err(_), Ok(found)) => Expected::Sparse(found),
+            (_, Err(refusal)) => Expected::Refused(refusal.number),
         }
     };
     (0..profile.depth).map(expected).collect()
@@ -45,7 +76,7 @@ fn written(numbers: [u8; 5], random: &mut Random) -> Vec<u8> {
     [&numbers[..], &cells].concat()
 }
 
-/// Inputs of small sheets with any cells, with a block half way between two codewords, with some cells wrong anywhere, or with a scratch.
+/// Inputs of small sheets with any cells, with a block half way between two codewords, with some cells wrong anywhere, with thin runs, or with a scratch.
 pub fn drawn(count: usize) -> Vec<Vec<u8>> {
     let mut random = Random::new(7);
     let draw = |_| {
@@ -53,10 +84,11 @@ pub fn drawn(count: usize) -> Vec<Vec<u8>> {
         let r = random.between(2, (n - 1).min(9));
         let [b, limit, depth] = [(0, 254), (0, r - 1), (1, 16)].map(|(least, most)| random.between(least, most));
         let mut input = written([n, r, b, limit, depth].map(|x| x as u8), &mut random);
-        match random.between(0, 4) {
+        match random.between(0, 5) {
             0 => input[5..].copy_from_slice(&random.bytes(depth * n)),
             1 if r % 2 == 1 => between_two(&mut input, random.between(0, depth - 1)),
             2 => random.change(&mut input[5..], depth.min(3)),
+            3 if r >= 5 => sparse_runs(&mut input, &mut random),
             _ => scratch(&mut input[5..], depth * (r / 2), &mut random),
         }
         input
@@ -71,6 +103,22 @@ fn between_two(input: &mut [u8], block: usize) {
     let half = profile.r.div_ceil(2);
     for (i, value) in generator(profile.b, profile.r)[..half].iter().enumerate() {
         input[5 + i * profile.depth + block] ^= value;
+    }
+}
+
+/// Every second block gets a run longer than half of r, of which about half is changed.
+fn sparse_runs(input: &mut [u8], random: &mut Random) {
+    let (profile, _) = parts(input);
+    input[3] = input[1] - 1;
+    for block in (0..profile.depth).step_by(2) {
+        let length = random.between(profile.r / 2 + 1, profile.r - 1);
+        let start = random.between(0, profile.n - length);
+        let changed = length / 2 + random.between(0, 1);
+        let mut difference = vec![0; length];
+        random.change_run(&mut difference, changed.max(2));
+        for (i, value) in difference.into_iter().enumerate() {
+            input[5 + (start + i) * profile.depth + block] ^= value;
+        }
     }
 }
 

@@ -42,6 +42,7 @@ fn reason(refusal: Refusal) -> String {
         8 => "plot order",
         11 => "spotted: no codeword differs in at most h cells",
         14 => "tract full: a payload beyond 1,000, or a cell or counter above 400,000,000",
+        16 => "thin: a run of more than r/2 cells, of which at most half would be changed",
         _ => panic!("{number}"),
     };
     let figure = match refusal.figure {

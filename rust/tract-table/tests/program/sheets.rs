@@ -46,6 +46,15 @@ pub fn differently_damaged() -> [Vec<u8>; 3] {
     [good, scratched, mouldy]
 }
 
+/// The input of a sheet of one plot, of which block 2 has a run of eight cells with so many of them wrong, up to five; h is 5.
+pub fn with_run(wrong: usize) -> Vec<u8> {
+    let mut input = written([40, 10, 1, 8, 4], &record(7, &[3, 32, 2]));
+    for cell in [0, 7, 3, 4, 1].into_iter().take(wrong) {
+        input[5 + (20 + cell) * 4 + 2] ^= 255;
+    }
+    input
+}
+
 /// Records of a few plots, of two dozen species.
 fn plots(random: &mut Random) -> Vec<u8> {
     let mut payload = Vec::new();

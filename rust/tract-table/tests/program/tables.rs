@@ -7,7 +7,7 @@ use second::Mode;
 
 use crate::expected;
 use crate::run::{EXAMPLES, PROGRAM};
-use crate::sheets::{differently_damaged, drawn, files, written, File, LONGEST, SMALL};
+use crate::sheets::{differently_damaged, drawn, files, with_run, written, File, LONGEST, SMALL};
 
 /// The files' names, with an option where the mode is not that of the file before, which for the first is scratch mode.
 fn arguments<'a>(files: &'a [File], modes: &[Mode]) -> Vec<&'a str> {
@@ -66,6 +66,20 @@ fn a_mode_for_each_sheet() {
         assert_eq!(text.contains(torn), modes[2] == Mode::Burst, "{text}");
         let spotted = "1.sheet: not in the table: spotted: ";
         assert_eq!(text.contains(spotted), modes[1] == Mode::Spots, "{text}");
+    }
+}
+
+/// A long run is mended if more than half of it is wrong, and else leaves its sheet out, unless that is read in spot mode.
+#[test]
+fn a_thin_run() {
+    for wrong in 2..=5 {
+        let sheets = files([with_run(wrong)]);
+        let text = held("thin", &sheets, &[Mode::Burst], None);
+        let told = "0.sheet: not in the table: thin: a run of more than r/2 cells, of which at most half would be changed (refusal 16, place 2)\n";
+        assert_eq!(text.starts_with(told), wrong <= 4, "{text}");
+        let mended = "0.sheet: 1 plot, 2 trees, 1 of 4 blocks mended\n";
+        assert_eq!(text.starts_with(mended), wrong == 5, "{text}");
+        assert!(held("thin", &sheets, &[Mode::Spots], None).starts_with(mended));
     }
 }
 

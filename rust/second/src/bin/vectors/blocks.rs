@@ -1,5 +1,6 @@
 //! Vectors for one block: correction, writing, the codeword test, and generators.
 
+use crate::repairs;
 use crate::vector::{answer, profile_fields, Field, Vector};
 use second::generator::generator;
 use second::random::Random;
@@ -165,6 +166,7 @@ fn inputs(sizes: &[Size]) -> Vec<Input> {
     }
     inputs.extend(wrapped_inputs(&mut random));
     inputs.extend(ambiguous_inputs(&mut random));
+    inputs.extend(repairs::repairs().map(Input::from));
     inputs
 }
 

@@ -1,6 +1,7 @@
 //! Vectors for the look, and for the fill of a run that is named.
 
 use crate::blocks::{between_two, codeword, damage, profile, refused_inputs, Size, NEIGHBOUR_SIZES, UNTOUCHED};
+use crate::repairs;
 use crate::vector::{answer, profile_fields, Field, Vector};
 use second::fill::fill;
 use second::random::Random;
@@ -129,6 +130,16 @@ fn tied(size: Size, random: &mut Random) -> Vec<Vector> {
     look_and_fills(&profile, &read, &[(start, half), (last, half), (start + 1, half - 1)])
 }
 
+/// Looks at repairs long and short, dense and thin; a thin run is then filled, and so is the other of two that are equally short.
+fn repairs() -> Vec<Vector> {
+    let looks = repairs::repairs().map(|repair| look_vector(&repair.profile, &repair.read));
+    let fills = repairs::sparse().flat_map(|repair| {
+        let fill = |run: Run| fill_vector(&repair.profile, &repair.read, (run.start, run.length), repair.profile.n);
+        repair.equally_short().into_iter().map(fill).collect::<Vec<_>>()
+    });
+    looks.chain(fills).collect()
+}
+
 /// Looks with byte 0, and fills with byte 1.
 pub fn fills() -> Vec<Vector> {
     let mut random = Random::new(501);
@@ -141,5 +152,6 @@ pub fn fills() -> Vec<Vector> {
     for size in NEIGHBOUR_SIZES {
         vectors.extend(tied(size, &mut random));
     }
+    vectors.extend(repairs());
     vectors
 }

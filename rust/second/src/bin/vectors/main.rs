@@ -52,6 +52,7 @@
 mod blocks;
 mod fills;
 mod plots;
+mod repairs;
 mod sheets;
 mod spots;
 mod stands;
@@ -143,16 +144,16 @@ mod tests {
     #[test]
     fn every_number_occurs() {
         let expected: [(&str, &[usize]); 10] = [
-            ("blocks", &[0, 1, 2, 3, 4]),
+            ("blocks", &[0, 1, 2, 3, 4, 16]),
             ("writes", &[0, 1, 2]),
             ("checks", &[0, 1, 2]),
-            ("block", &[0, 1, 2, 3, 4]),
-            ("sheets", &[0, 1, 2, 3, 4]),
+            ("block", &[0, 1, 2, 3, 4, 16]),
+            ("sheets", &[0, 1, 2, 3, 4, 16]),
             ("plots", &[0, 2, 5, 6, 7, 8, 9, 10]),
             ("spots", &[0, 1, 2, 11]),
-            ("fills", &[0, 1, 2, 3, 4, 12]),
+            ("fills", &[0, 1, 2, 3, 4, 12, 16]),
             ("stands", &[0, 13]),
-            ("library", &[0, 1, 2, 3, 4, 5, 6, 7, 8, 9, 10, 11, 12, 13]),
+            ("library", &[0, 1, 2, 3, 4, 5, 6, 7, 8, 9, 10, 11, 12, 13, 16]),
         ];
         for (kind, numbers) in expected {
             let found: BTreeSet<usize> = vectors(kind).unwrap().iter().map(|vector| vector.answer[0]).collect();
@@ -160,16 +161,16 @@ mod tests {
         }
     }
 
-    /// Of the look every number but 12, of the fill every number but 4: there a tied block goes to the codeword of the run named.
+    /// Of the look every number but 12, of the fill every number but 4 and 16: there a tied block goes to the codeword of the run named, and so does a thin one.
     #[test]
     fn every_number_of_look_and_fill_occurs() {
-        for (operation, numbers) in [(0, [0, 1, 2, 3, 4]), (1, [0, 1, 2, 3, 12])] {
+        for (operation, numbers) in [(0, &[0, 1, 2, 3, 4, 16][..]), (1, &[0, 1, 2, 3, 12])] {
             let told = |vector: &Vector| match vector.fields[0] {
                 Field::Byte(number) if number == operation => Some(vector.answer[0]),
                 _ => None,
             };
             let found: BTreeSet<usize> = vectors("fills").unwrap().iter().filter_map(told).collect();
-            assert_eq!(found, BTreeSet::from(numbers), "{operation}");
+            assert_eq!(found, numbers.iter().copied().collect(), "{operation}");
         }
     }
 

@@ -1,7 +1,7 @@
 //! Vectors for sheets, written and read, and for the lister.
 
-use crate::blocks;
 use crate::vector::{answer, profile_fields, Field, Vector};
+use crate::{blocks, repairs};
 use second::random::Random;
 use second::{cases, lister, plot, sheet, Mode, Profile};
 
@@ -169,7 +169,7 @@ fn changed(mode: Mode, profile: &Profile, chosen: impl Fn(usize) -> bool, random
 }
 
 /// The sheet of these blocks read with a scratch of this length.
-fn read_blocks(mode: Mode, profile: &Profile, blocks: &[Vec<u8>], scratch: usize, random: &mut Random) -> Vector {
+pub fn read_blocks(mode: Mode, profile: &Profile, blocks: &[Vec<u8>], scratch: usize, random: &mut Random) -> Vector {
     let (scratch, payload) = (random.bytes(scratch), random.bytes(profile.depth * profile.k()));
     read_vector_in(mode, profile, &interleaved(blocks), scratch, payload)
 }
@@ -236,6 +236,7 @@ pub fn sheets() -> Vec<Vector> {
     vectors.extend(refused());
     vectors.extend(scratch_lengths(Mode::Burst));
     vectors.extend(sixteen_blocks(Mode::Burst, 203));
+    vectors.extend(repairs::sheets(Mode::Burst, 204));
     vectors
 }
 

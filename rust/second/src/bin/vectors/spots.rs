@@ -1,6 +1,7 @@
 //! Vectors for spot mode: blocks, and sheets read in it.
 
 use crate::blocks::{codeword, damage, neighbour, profile, refused_inputs, Input, Size, NEIGHBOUR_SIZES, UNTOUCHED};
+use crate::repairs;
 use crate::sheets::{self, read_vector_in, PROFILES};
 use crate::vector::{answer, profile_fields, Field, Vector};
 use second::random::Random;
@@ -202,7 +203,9 @@ fn sheets_read() -> Vec<Vector> {
     vectors
 }
 
-/// Blocks with byte 0, and sheets with byte 1.
+/// Blocks with byte 0, and sheets with byte 1; then the same with thin runs, which are nothing special here.
 pub fn spots() -> Vec<Vector> {
-    inputs().into_iter().map(correction).chain(sheets_read()).collect()
+    let plain = inputs().into_iter().map(correction).chain(sheets_read());
+    let sparse = repairs::sparse().map(|repair| correction(repair.into()));
+    plain.chain(sparse).chain(repairs::sheets(Mode::Spots, 404)).collect()
 }

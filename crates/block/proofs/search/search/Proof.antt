@@ -1,4 +1,4 @@
--- `block::search` meets its contract. The invariant: before start s the register is the shifted remainder by s, f is its lowest cell, and what was
+-- `block::search::search` meets its contract. The invariant: before start s the register is the shifted remainder by s, f is its lowest cell, and what was
 -- found is what the definition finds among the starts below s.
 use borrow.Author.Needs.{needs}
 use Prim.Native.Nat.{ℕ, _≤_, _<_, _-_, _%_, _/_}
@@ -18,8 +18,8 @@ use Rattle.register.proofs.Backward.{back-law}
 use Rattle.block.specs.Found.{Searching}
 use Rattle.block.proofs.Entries.{back-generator-law}
 use Rattle.block.proofs.Steps.{searching-start, searching-next, low-cells-of}
-use Rattle.block.proofs.search.Statement.{statement}
-use Rattle.block.proofs.search.Tie as tie
+use Rattle.block.proofs.search.search.Statement.{statement}
+use Rattle.block.proofs.search.search.Tie as tie
 
 abbrev Inv-loop : tie.InvT-loop
 Inv-loop p low high rest₀ f₀ found₀ s₀ rest f found s = (s ≤ p .n) × Searching p (take (p .r) (cells rest₀)) s rest found × (f ≡ getD (cells rest) 0 0) × (f < 256)

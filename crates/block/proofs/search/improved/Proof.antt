@@ -1,12 +1,12 @@
--- `block::improved` meets its contract: each of its four returns is a case of `improvedBy`.
+-- `block::search::improved` meets its contract: each of its four returns is a case of `improvedBy`.
 use borrow.Author.Needs.{needs}
 use native.Mathlib.Omega.{arith}
 use Rattle.code.proofs.Search.{extent-le}
 use Rattle.register.specs.Words.{cells}
 use Rattle.register.proofs.Cells.{cells-length}
 use Rattle.block.proofs.Steps.{not-fitting, shorter, longer, equal}
-use Rattle.block.proofs.improved.Statement.{statement}
-use Rattle.block.proofs.improved.Tie as tie
+use Rattle.block.proofs.search.improved.Statement.{statement}
+use Rattle.block.proofs.search.improved.Tie as tie
 
 extent-requires : tie.Need-extent-requires
 extent-requires c κs = search needs
