@@ -1,6 +1,9 @@
 // The block of document 01: writing, checking and correcting one block; and looking at a block and filling a run of it (document 02, Note 3), of which
 // correcting is made. A block's check cells, its remainder and the shifted remainders come from the shift register of the crate `register`; each entry
 // refuses with 1, then 2, and its contract gives the answer and every lent byte by a definition of specs/Block.antt.
+
+#![tactic(auto)]
+
 ghost use Rattle.std.specs.Prelude.{◌≡◌, ◌≤◌, length, take};
 ghost use Rattle.code.specs.Code.{generator, remainder, weight};
 ghost use Rattle.code.specs.Run.{ZeroFrom, shifted_remainder};
@@ -20,7 +23,7 @@ mod search;
 /// What correcting a block answers, in every mode. Document 01 calls the cases misprint, wrong frame, torn, tied, and mended (or clean);
 /// `length` cells from `start` on are "the result s and f". `TooManyErrors` and `CorrectedCells` are of document 02, Note 1: spotted, and mended (or clean)
 /// with `count` cells changed, of which `lowest` is the lowest; `correct` and `look` never answer them. `Sparse` is of its Note 7: thin.
-#[derive(Drop)]
+#[derive(Clone, Copy)]
 pub enum Verdict {
     BadProfile,
     WrongLength,
@@ -33,7 +36,7 @@ pub enum Verdict {
 }
 
 /// What writing a block or a sheet answers: misprint, wrong frame, or that it is written.
-#[derive(Drop)]
+#[derive(Clone, Copy)]
 pub enum Written {
     BadProfile,
     WrongLength,
@@ -42,7 +45,7 @@ pub enum Written {
 
 /// What checking a block answers: misprint, wrong frame, clean ("called clean exactly if all its syndromes are zero"), or not clean, which is
 /// no refusal.
-#[derive(Drop)]
+#[derive(Clone, Copy)]
 pub enum Checked {
     BadProfile,
     WrongLength,
@@ -51,7 +54,7 @@ pub enum Checked {
 }
 
 /// What filling a run answers: misprint, wrong frame, bad span (document 02, Note 3), torn, which speaks of that one run only, or that its codeword is written.
-#[derive(Drop)]
+#[derive(Clone, Copy)]
 pub enum Filled {
     BadProfile,
     WrongLength,
@@ -147,7 +150,7 @@ pub fn check(p: Profile, read: &[u8]) -> Checked
 // ---- looking
 
 /// What a look finds: the verdict, and the shifted remainder at its start, from which the fill of its run is made. A refusal has start 0.
-#[derive(Drop)]
+#[derive(Clone, Copy)]
 pub struct Judgement {
     pub verdict: Verdict,
     pub error: Register,

@@ -11,7 +11,7 @@ use register::Register;
 
 // What the search has found: the least length, its first start, 1 if a second start has it and else 0, and the shifted remainder there.
 // All fields are words: the copies of a struct with gaps between its fields cost more than the search's step.
-#[derive(Drop)]
+#[derive(Clone, Copy)]
 pub(crate) struct Found {
     pub size: usize,
     pub start: usize,

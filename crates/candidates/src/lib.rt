@@ -1,6 +1,9 @@
 // The tester's list: every codeword that some run of at most L cells of a read block reaches, each by its tight run, from the first to the last cell that it changes.
 // A tight run from s is known by the shifted remainder there: its lowest cell is not zero, and its extent is the run's length. So one pass over the starts finds them
 // all, at most one for each start, and they are written by length and then start.
+
+#![tactic(auto)]
+
 ghost use Rattle.std.specs.Prelude.{◌≡◌, [], ◌∷◌, ℕ, ◌+◌, ◌*◌, ◌≤◌, ◌<◌, length, get_or, take};
 ghost use Rattle.code.specs.Run.{ZeroFrom};
 ghost use Rattle.register.specs.Words.{cells};
@@ -14,7 +17,7 @@ use register::Register;
 mod numbers;
 
 /// What listing a block answers: misprint, wrong frame, or how many runs are listed, which may be none.
-#[derive(Drop)]
+#[derive(Clone, Copy)]
 pub enum ListAnswer {
     BadProfile,
     WrongLength,

@@ -1,6 +1,9 @@
 // The library for C and Rust: each exported function takes numbers and byte slices (pointer and length), answers the documents' number, 0 where
 // accepted, or the length of a text, and hands every other number out through a reference. Each calls one entry of the crates below, and its
 // contract is that entry's answer, as the numbers that its own crate defines; specs/Numbers.antt has what C alone needs.
+
+#![tactic(auto)]
+
 ghost use Rattle.std.specs.Prelude.{◌≡◌};
 ghost use Rattle.profile.specs.Profile.{message_length, half};
 ghost use Rattle.block.specs.Block.{write_answer, write_leaves, check_answer, correct_answer, correct_leaves, look_answer, fill_answer, fill_leaves};

@@ -1,6 +1,9 @@
 // Prints the coefficients of generators, lowest first, one generator to a line. The file stdout has the expected lines: rust/second made them
 // (`vectors generators --answers`), which multiplies the linear factors one after another in an arithmetic of its own and shares no code with
 // the library. Document 01 gives the first line: 8 14 7 1 for b = 0 and r = 3.
+
+#![tactic(auto)]
+
 use libc::STDOUT_FILENO;
 
 fn wide(x: u8) -> u64 {

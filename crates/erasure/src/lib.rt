@@ -1,5 +1,8 @@
 // Filling known places of a block from its syndromes, eight cells a word: the syndromes are values at powers of α, and the value at a place is a quotient
 // of two polynomials at its point, which is handed in beside the place. That this is the filled word is proved in specs/ and proofs/.
+
+#![tactic(auto)]
+
 ghost use Rattle.std.specs.Prelude.{◌≡◌, map, ℕ, ◌+◌, ◌*◌, ◌<◌, ◌≤◌, min, length, get_or, set};
 ghost use Rattle.field.specs.Field.{add, alpha};
 ghost use Rattle.words.specs.Word.{bytes_from};

@@ -1,5 +1,8 @@
 // Arithmetic of GF(256) on bytes: doubling, product, inverse and powers of α = 2, each equal to its definition in specs/Field.antt.
 // All of it is shifts, exclusive or and products with a bit: no branch depends on an element, and there is no table.
+
+#![tactic(auto)]
+
 ghost use Rattle.std.specs.Prelude.{◌≡◌};
 ghost use Rattle.field.specs.Field.{double, mul, inverse, alpha};
 

@@ -1,6 +1,9 @@
 // Prints products, inverses and powers of α in GF(256), one to a line, in decimal. The file stdout has the expected lines: they were
 // computed apart from this library, by a carry-less product of two bytes followed by reduction with hexadecimal 11D; inverses by
 // trying every byte (0, which has none, gives 0), powers by repeated products with 2.
+
+#![tactic(auto)]
+
 use libc::STDOUT_FILENO;
 
 fn print_line(left: u64, sign: &[u8], right: u64, value: u8) {

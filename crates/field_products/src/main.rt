@@ -1,6 +1,9 @@
 // Works out the product of every two bytes of GF(256), and the inverse of every byte, and prints one checksum for each byte's 256 products and one for
 // the inverses. The file stdout has the expected lines: they were computed apart from this library, by a carry-less product of two bytes followed by long
 // division by hexadecimal 11D, and inverses by trying every byte (0, which has none, gives 0).
+
+#![tactic(auto)]
+
 use libc::STDOUT_FILENO;
 
 const BYTES: usize = 256;

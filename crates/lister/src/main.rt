@@ -1,5 +1,8 @@
 // The plot lister of document 01. Standard input is read to its end, or to one byte past the longest valid input, and the text that the
 // library makes of it is written to standard output.
+
+#![tactic(auto)]
+
 ghost use Rattle.std.specs.Prelude.{◌≤◌, length, take};
 ghost use Rattle.listing.specs.Theorems.{longest_text, enough_input, AnswersAll};
 

@@ -1,5 +1,8 @@
 // From the bytes of the plot lister's standard input to the text of its answer. The profile's five bytes are taken off, the sheet is read
 // with buffers of the lister's own, and the text is that of the payload that came back, or of the refusal.
+
+#![tactic(auto)]
+
 ghost use Rattle.std.specs.Prelude.{◌≡◌, ◌≤◌, length, replicate};
 ghost use Rattle.profile.specs.Profile.{InRange};
 ghost use Rattle.listing_text.specs.Buffer.{text_in, text_length};

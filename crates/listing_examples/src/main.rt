@@ -1,5 +1,8 @@
 // The plot lister's texts for the worked inputs of document 01, and for inputs that are refused in each of its ways. What is printed is held
 // to the file stdout.
+
+#![tactic(auto)]
+
 use libc::STDOUT_FILENO;
 
 fn list(input: &[u8]) {

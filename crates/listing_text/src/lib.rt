@@ -1,5 +1,8 @@
 // The text of the plot lister's answer, written into a lent buffer as far as that goes. Each function hands on the number of bytes written.
 // The text is what specs/Text.antt says, piece by piece.
+
+#![tactic(auto)]
+
 ghost use Rattle.std.specs.Prelude.{◌≡◌, ◌+◌, ◌*◌, ◌≤◌, ◌<◌, ◌/◌, ◌%◌, length, drop};
 ghost use Rattle.plot.specs.Grammar.{reading, Readable};
 ghost use Rattle.listing_text.specs.Text.{decimal, field, line_text, lines_text, plot_lines, refusal_text, listing_text};

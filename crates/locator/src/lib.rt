@@ -1,5 +1,8 @@
 // Where a read block is wrong: Massey's recursion over the syndromes, in registers of 64 cells, and the roots of the locator, eight cells at a time.
 // The contracts are equations with the definitions of specs/; that those are right is specs/Theorems.antt.
+
+#![tactic(auto)]
+
 ghost use Rattle.std.specs.Prelude.{◌≡◌, List, [], ◌∷◌, ◌++◌, ℕ, ◌+◌, ◌≤◌, ◌<◌, length, take};
 ghost use Rattle.field.specs.Field.{alpha};
 ghost use Rattle.products.specs.Products.{evals, listed};
@@ -13,7 +16,7 @@ use register::Register;
 
 /// Where a block is wrong. near is 1, or 0 where no codeword is near, and then all else is 0. The places of the wrong cells rise; point i is α to the
 /// power of place i; both are 0 from `count` on.
-#[derive(Drop)]
+#[derive(Clone, Copy)]
 pub struct Located {
     pub near: usize,
     pub count: usize,
@@ -24,7 +27,7 @@ pub struct Located {
 // ---- Massey's recursion
 
 // The recursion after some syndromes.
-#[derive(Drop)]
+#[derive(Clone, Copy)]
 struct State {
     connection: Register,
     before: Register,

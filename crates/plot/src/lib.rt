@@ -1,5 +1,8 @@
 // The plot records in a payload: a cursor that moves on one record at a time, the check of a whole payload, asking for a plot and adding one.
 // Each answer is an equation with one reading of the payload (specs/Grammar.antt).
+
+#![tactic(auto)]
+
 mod numbers;
 mod record;
 mod tally;
@@ -16,14 +19,14 @@ use tally::{NO_LINE, check_line, check_lines, line_at};
 pub const LONGEST: usize = 4048;
 
 /// Document 01's "place in the payload", with the number of the last plot before it (0 if there is none).
-#[derive(Drop)]
+#[derive(Clone, Copy)]
 pub struct Cursor {
     pub at: usize,
     pub last: u16,
 }
 
 /// A tally line: its species number, its diameter class in centimetres and its tree count.
-#[derive(Drop)]
+#[derive(Clone, Copy)]
 pub struct Line {
     pub species: u8,
     pub class: u8,
@@ -31,7 +34,7 @@ pub struct Line {
 }
 
 /// What the check of one line finds first: nothing, or the value that fails, or the rise above the line before.
-#[derive(Drop)]
+#[derive(Clone, Copy)]
 pub enum LineCheck {
     Holds,
     Species,
@@ -41,7 +44,7 @@ pub enum LineCheck {
 }
 
 /// What the check of lines in turn finds: the check of the first line that fails and its index from 0, or `Holds` and 0.
-#[derive(Drop)]
+#[derive(Clone, Copy)]
 pub struct LinesCheck {
     pub check: LineCheck,
     pub index: usize,
@@ -50,7 +53,7 @@ pub struct LinesCheck {
 /// A refusal. Document 01 calls them wrong frame, bad mark, cut short, bad tally, plot order, no such plot and full; each has its place, but for
 /// wrong frame and no such plot, whose place is 0. A bad tally has what failed in the line at fault and that line's index in its record; `Holds`
 /// and 0 where the fault is outside a line.
-#[derive(Drop)]
+#[derive(Clone, Copy)]
 pub enum Refusal {
     WrongLength,
     BadMark(usize),
@@ -67,7 +70,7 @@ pub enum Refusal {
 
 /// What stands at a place in the payload: a record whose checks before the lines hold, with the place and number of its lines and the place after
 /// it; zero bytes to the end; or the refusal of the first failing check.
-#[derive(Drop)]
+#[derive(Clone, Copy)]
 pub enum Step {
     Record {
         lines: usize,
@@ -79,21 +82,21 @@ pub enum Step {
 }
 
 /// What checking a payload answers: the place after the last record, or the refusal that ended the reading.
-#[derive(Drop)]
+#[derive(Clone, Copy)]
 pub enum Checked {
     Accepted(Cursor),
     Refused(Refusal),
 }
 
 /// What the companion entry of asking for a plot answers: the record's first byte and its length, or the refusal.
-#[derive(Drop)]
+#[derive(Clone, Copy)]
 pub enum Located {
     At { start: usize, len: usize },
     Refused(Refusal),
 }
 
 /// What adding a plot answers: the record's first byte, or the refusal.
-#[derive(Drop)]
+#[derive(Clone, Copy)]
 pub enum Added {
     At(usize),
     Refused(Refusal),

@@ -1,5 +1,8 @@
 // Document 01's example of a plot record and of a full payload, and one payload for each refusal, with the texts that the lister prints for them, and
 // the figure and the line of each refusal. What is printed is held to the file stdout.
+
+#![tactic(auto)]
+
 use libc::STDOUT_FILENO;
 use plot::{Added, Checked, Located, Refusal};
 

@@ -1,6 +1,9 @@
 // Operations of GF(256) on many cells at once: the product of two words cell by cell, the values of a polynomial at eight points, powers of eight
 // cells, and the dot product of two registers. A product of two cells is the sum of the doubles of one that the bits of the other choose; a mask of
 // whole cells is a bit of each times 255.
+
+#![tactic(auto)]
+
 ghost use Rattle.std.specs.Prelude.{◌≡◌, [], ◌∷◌, ℕ, ◌<◌, ◌%◌, replicate};
 ghost use Rattle.field.specs.Field.{alpha};
 ghost use Rattle.code.specs.Poly.{padd, pscale};
@@ -14,7 +17,7 @@ use register::Register;
 use words::Doubles;
 
 // A word with each cell times 1, 2, 4, .., 128.
-#[derive(Drop)]
+#[derive(Clone, Copy)]
 struct WordDoubles {
     d0: u64,
     d1: u64,

@@ -1,11 +1,14 @@
 // The profile of document 01: five numbers, their ranges, k and h, and the rule on long but thin repairs (document 02, Note 7). Every entry on a block or a sheet takes one and refuses it by 1 where it is out of
 // range; specs/Refusals.antt says of all of them together when the refusals 1 and 2 come.
+
+#![tactic(auto)]
+
 ghost use Rattle.std.specs.Prelude.{◌≡◌};
 ghost use Rattle.profile.specs.Profile.{in_range, message_length, half, is_sparse};
 
 /// The five numbers of a profile: cells in a block (n), check cells (r), starting power (b), the longest run that may be
 /// corrected (L, `limit`), and blocks in a sheet (D, `depth`).
-#[derive(Drop)]
+#[derive(Clone, Copy)]
 pub struct Profile {
     pub n: usize,
     pub r: usize,

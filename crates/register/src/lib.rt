@@ -1,5 +1,8 @@
 // A shift register of 64 cells, each a byte of GF(256): eight words of eight cells, by value. Its contracts are equations on the list of its
 // cells, the lowest first. Each function works on a word at a time by the operations of the crate `words`.
+
+#![tactic(auto)]
+
 ghost use Rattle.std.specs.Prelude.{◌≡◌, ℕ, ◌<◌, ◌*◌, ◌-◌, ◌/◌, ◌%◌, ◌^◌, min, eqb, get_or, take, drop, replicate};
 ghost use Rattle.field.specs.Field.{add};
 ghost use Rattle.code.specs.Poly.{padd, pscale};
@@ -15,7 +18,7 @@ use words::Doubles;
 mod lower;
 
 /// Eight words of eight cells; the lowest cell is the lowest byte of w0.
-#[derive(Drop)]
+#[derive(Clone, Copy)]
 pub struct Register {
     pub w0: u64,
     pub w1: u64,

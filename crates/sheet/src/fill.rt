@@ -10,7 +10,7 @@ use crate::{Mode, gather};
 use profile::Profile;
 
 // The run that the first pass found in a block: its start and its size; in spot mode 0, and the number of wrong cells.
-#[derive(Drop)]
+#[derive(Clone, Copy)]
 pub(crate) struct Run {
     pub start: usize,
     pub size: usize,

@@ -1,5 +1,8 @@
 // The sheet of document 01: D interleaved blocks, written from a payload and read back with every block corrected. There is one reader for every
 // mode; a mode is how one block is corrected. Its two passes, with a scratch of one block (document 02, Note 6), are in judge.rt and fill.rt.
+
+#![tactic(auto)]
+
 ghost use Rattle.std.specs.Prelude.{◌≡◌, ◌+◌, ◌*◌, ◌≤◌, ◌<◌, length, replicate};
 ghost use Rattle.lists.specs.Choice.{pick};
 ghost use Rattle.profile.specs.Profile.{InRange, message_length};
@@ -16,14 +19,14 @@ mod numbers;
 
 /// How the blocks of a sheet are read: each goes to the codeword within the shortest run, at most L cells long, unless that is long but thin (document 02,
 /// Note 7), or (Note 1) to the codeword that differs in the fewest cells, at most h anywhere in the block.
-#[derive(Drop)]
+#[derive(Clone, Copy)]
 pub enum Mode {
     Burst,
     Spots,
 }
 
 /// Why a sheet is refused. Document 01 calls the first two misprint and wrong frame; the third has the block's number and its verdict.
-#[derive(Drop)]
+#[derive(Clone, Copy)]
 pub enum Refusal {
     BadProfile,
     WrongLength,
@@ -34,7 +37,7 @@ pub enum Refusal {
 }
 
 /// What reading a sheet answers: a refusal, or the number of blocks changed.
-#[derive(Drop)]
+#[derive(Clone, Copy)]
 pub enum Reading {
     Refused(Refusal),
     Accepted { changed: usize },

@@ -1,5 +1,8 @@
 // Writes and reads the sheets of document 01 and prints what comes out, in decimal. The file stdout has the expected lines: the cells,
 // the payload and the numbers are those of document 01, "The plot lister" and "Bench sheet of examples". The last three are read in spot mode; the scratch of D × n bytes is document 02's, Note 6.
+
+#![tactic(auto)]
+
 use libc::STDOUT_FILENO;
 use profile::Profile;
 use sheet::{Mode, Reading, Refusal};

@@ -1,6 +1,9 @@
 // Correcting a block in spot mode (document 02, Note 1): the codeword that differs from the read cells in the fewest cells, up to h cells anywhere. The
 // syndromes of the block's remainder are located by the crate `locator` and filled by the crate `erasure`; the contract gives the answer and every lent
 // byte by a definition of specs/Spots.antt.
+
+#![tactic(auto)]
+
 ghost use Rattle.std.specs.Prelude.{◌≡◌, ◌≤◌, length, take};
 ghost use Rattle.register.specs.Words.{cells};
 ghost use Rattle.erasure.specs.Filling.{filled_at};

@@ -51,7 +51,7 @@ fn count_lines(
 }
 
 // What the check of a payload answers, and how many records were counted before its end or its refusal.
-#[derive(Drop)]
+#[derive(Clone, Copy)]
 pub(crate) struct Counted {
     pub checked: Checked,
     pub records: u32,

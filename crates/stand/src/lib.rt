@@ -1,6 +1,9 @@
 // The stand table of a tract (document 02, Note 4): begun from a species list, added to by payloads one after another, totalled, and divided by the number of
 // records. Each answer and each table is an equation with specs/Answers.antt. A payload is counted into a copy of the table in one pass, each record as soon as it is
 // checked, and the copy becomes the table once the whole payload is accepted.
+
+#![tactic(auto)]
+
 mod count;
 mod list;
 mod numbers;
@@ -21,7 +24,7 @@ const MOST_PAYLOADS: u32 = 1000;
 pub(crate) const MOST: u32 = 400000000;
 
 /// The tract beside its table: the listed species, which are the first `listed` of the sixteen places, and how many payloads and records were added.
-#[derive(Drop)]
+#[derive(Clone, Copy)]
 pub struct Tract {
     pub species: [u8; 16],
     pub listed: usize,
@@ -30,7 +33,7 @@ pub struct Tract {
 }
 
 /// A refusal. Document 02 calls the first three species list, tract full and no plots, and their place is 0; the last is the payload's own.
-#[derive(Drop)]
+#[derive(Clone, Copy)]
 pub enum TableRefusal {
     SpeciesList,
     TractFull,
@@ -39,28 +42,28 @@ pub enum TableRefusal {
 }
 
 /// What beginning a table and adding to it answer.
-#[derive(Drop)]
+#[derive(Clone, Copy)]
 pub enum Answer {
     Accepted,
     Refused(TableRefusal),
 }
 
 /// The answer of beginning or adding, with the tract after it.
-#[derive(Drop)]
+#[derive(Clone, Copy)]
 pub struct Outcome {
     pub answer: Answer,
     pub tract: Tract,
 }
 
 /// What the total answers: the sum of the cells, or the refusal.
-#[derive(Drop)]
+#[derive(Clone, Copy)]
 pub enum TreeTotal {
     Trees(u64),
     Refused(TableRefusal),
 }
 
 /// What trees per plot answer: the whole quotient of the total by the number of records and the exact remainder, or the refusal.
-#[derive(Drop)]
+#[derive(Clone, Copy)]
 pub enum PerPlot {
     Trees { quotient: u64, remainder: u64 },
     Refused(TableRefusal),

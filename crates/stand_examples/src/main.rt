@@ -1,5 +1,8 @@
 // A stand table worked by hand from document 02's Note 4: a tract with two listed species and three payloads, the second of them refused; then what the
 // table itself refuses, 13 to 15. What is printed is held to the file stdout.
+
+#![tactic(auto)]
+
 use libc::STDOUT_FILENO;
 use stand::{Answer, Tract};
 

@@ -4,6 +4,9 @@
 // 3 write, 4 read a sheet; 5 check a payload, 6 ask it for a plot, 7 add a plot to it; 8 correct a block and 9 read a sheet in spot mode; 10 look at a
 // block, 11 fill a run of it; 12 begin a stand table, add payloads to a state of one, and ask for its total and its trees per plot; 13 list the codewords
 // of a block); a word is two bytes, the low one first. Of 5, 6, 7 and each payload of 12 figure and line follow the other numbers, 0 and 0 where no line is at fault.
+
+#![tactic(auto)]
+
 ghost use Rattle.std.specs.Prelude.{◌<◌, ◌≤◌};
 
 use libc::{STDIN_FILENO, STDOUT_FILENO};

@@ -1,6 +1,9 @@
 // Operations on one word of eight cells, each a byte of GF(256): taken from a slice, moved by a cell, doubled, multiplied, and how many cells are
 // in use. The contracts are equations on the list of a word's cells, the lowest first. Exclusive or, shifts by a constant and masks keep sums, so
 // what they do to the cells is settled at the 64 powers of two.
+
+#![tactic(auto)]
+
 ghost use Rattle.std.specs.Prelude.{◌≡◌, ◌*◌, ◌^◌, ◌<◌, ◌≤◌, min, drop};
 ghost use Rattle.code.specs.Code.{nonzero};
 ghost use Rattle.code.specs.Poly.{padd, pscale};
@@ -100,7 +103,7 @@ pub fn word_extent(w: u64) -> usize
 }
 
 /// a, 2 a, 4 a, .., 128 a.
-#[derive(Drop)]
+#[derive(Clone, Copy)]
 pub struct Doubles {
     pub c0: u8,
     pub c1: u8,

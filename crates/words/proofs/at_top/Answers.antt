@@ -1,0 +1,7 @@
+-- Eight bits moved to the top of a word lose none.
+use native.Mathlib.Omega.{arith}
+use Rattle.words.proofs.Linear.{shl-byte}
+use Rattle.words.proofs.at_top.Goals as goal
+
+pub returns : goal.returns
+returns c = shl-byte c.args.c (omega arith)
