@@ -1,0 +1,7 @@
+-- The highest eight bits of the highest word, and the cell, added.
+use native.Mathlib.Omega.{arith}
+use Rattle.register.proofs.Cells.{feedback_is}
+use Rattle.register.proofs.feedback.Goals as goal
+
+pub returns : goal.returns
+returns c = feedback_is _ _ (omega arith) (omega arith)
