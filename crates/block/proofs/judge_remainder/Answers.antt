@@ -8,7 +8,7 @@ returns-then-is_zero c =
     judged_clean c.args.p c.requires.in_range c.args.rest c.requires.zero_from (sym c.is_zero.ensures ∙ c.if-is_zero.true)
 
 pub search-found-requires : goal.search-found-requires
-search-found-requires c = record { in_range = c.requires.0; g_value = c.requires.1.0; zero_from = c.requires.1.1 }
+search-found-requires c = record { in_range = c.requires.in_range; g_value = c.requires.g_value; zero_from = c.requires.zero_from }
 
 pub returns-then-p-size : goal.returns-then-p-size
 returns-then-p-size c =

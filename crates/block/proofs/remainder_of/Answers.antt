@@ -21,7 +21,6 @@ slice_bounds-load-end c = let s = c.args in sym (length-take-le _ _ (omega (arit
 
 pub returns : goal.returns
 returns c =
-    let s = c.before.before.before.before.before.before.before in
-    let y : List ℕ = s.args.read.now in
-    remainder_law s.args.p s.requires.0 y _ _ _ (bytes_of y (λ i. omega (arith, c.shared_slice_known-1.given i))) _ c.least-low.ensures
+    let y : List ℕ = c.args.read.now in
+    remainder_law c.args.p c.requires.in_range y _ _ _ (bytes_of y (λ i. omega (arith, c.shared_slice_known-1.given i))) _ c.least-low.ensures
     c.load.ensures c.message_checks-checks.ensures c.add.ensures

@@ -14,7 +14,6 @@ slice_bounds-divide_back-end c = sym (length-take-le _ _ c.requires.start_in_bou
 
 pub returns : goal.returns
 returns c =
-    let s = c.before.before.before.before.before.before.before in
-    let y : List ℕ = s.args.read.now in
-    shifted_law s.args.p s.requires.0 y s.args.start (bytes_of y (λ i. omega (arith, c.shared_slice_known-1.given i))) s.requires.1.1 _ _ _ _
-    (back_generator_law s.args.p s.requires.0 _ _ s.requires.1.0 c.generator_bottom-back.ensures) c.divide_back-below.ensures c.remainder_of.ensures c.add.ensures
+    let y : List ℕ = c.args.read.now in
+    shifted_law c.args.p c.requires.in_range y c.args.start (bytes_of y (λ i. omega (arith, c.shared_slice_known-1.given i))) c.requires.start_in_bounds _ _ _ _
+    (back_generator_law c.args.p c.requires.in_range _ _ c.requires.g_value c.generator_bottom-back.ensures) c.divide_back-below.ensures c.remainder_of.ensures c.add.ensures

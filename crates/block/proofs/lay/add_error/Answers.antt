@@ -3,15 +3,11 @@ use native.Mathlib.Omega.{arith}
 use mathlib.Core.Path.{◌≡◌, refl, sym, ap, ap₂, ◌∙◌}
 use mathlib.Core.List.{List}
 use lib.Bits.{bit_xor}
-use lib.ListN.{length, get_or, set, take, length-set}
+use lib.ListN.{length, get_or, set, length-set}
 use Rattle.lists.proofs.Fill.{fill_more, fill_old, fill_all}
-use Rattle.code.specs.Poly.{padd}
 use Rattle.block.proofs.Steps.{sum-length, sum_cell}
+use Rattle.block.proofs.lay.add_error.Invariants.{sum}
 use Rattle.block.proofs.lay.add_error.Goals as goal
-
-
-abbrev sum : List ℕ → List ℕ → List ℕ
-sum part error = padd part (take (length part) error)
 
 pub loop-i-init : goal.loop-i-init
 loop-i-init c = (omega arith, refl, refl)
@@ -35,7 +31,7 @@ pub loop-i-preserved : goal.loop-i-preserved
 loop-i-preserved c =
     let l = c.loop-i in
     let part₀ : List ℕ = c.args.part.now in
-    let error : List ℕ = c.args.t1 in
+    let error : List ℕ = c.args.error in
     let here : l.i < length part₀ = omega arith in
     let old : get_or l.part l.i 0 ≡ get_or part₀ l.i 0 =
     ap (λ (p : List ℕ). get_or p l.i 0) l.invariant.2 ∙ fill_old l.i (sum part₀ error) part₀ 0 (omega (arith, sum-length part₀ error)) in
@@ -53,6 +49,6 @@ pub returns : goal.returns
 returns c =
     let l = c.loop-i in
     let part₀ : List ℕ = c.args.part.now in
-    let error : List ℕ = c.args.t1 in
+    let error : List ℕ = c.args.error in
     let h : length part₀ ≤ l.i = omega arith in
     l.invariant.2 ∙ fill_all l.i (sum part₀ error) part₀ (omega (arith, sum-length part₀ error)) h

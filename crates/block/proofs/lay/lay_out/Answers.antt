@@ -13,8 +13,8 @@ slice_bounds-copy_cells-end-3 c = sym (length-take-le _ _ (omega (arith, c.requi
 
 pub copy_cells-requires : goal.copy_cells-requires
 copy_cells-requires c =
-    omega (arith, length-take-le c.args.r c.args.t2 (omega (arith, c.requires.r_bound)), length-take-le c.args.r c.args.cells.now (omega (arith, c.requires.cells_len)))
+    omega (arith, length-take-le c.args.r c.args.checks (omega (arith, c.requires.r_bound)), length-take-le c.args.r c.args.cells.now (omega (arith, c.requires.cells_len)))
 
 pub returns : goal.returns
 returns c =
-    laid_law c.args.t2 c.args.message.now c.args.cells.now _ _ c.args.r (omega (arith, c.requires.r_bound)) c.requires.cells_len c.copy_cells.ensures c.copy_cells-2.ensures
+    laid_law c.args.checks c.args.message.now c.args.cells.now _ _ c.args.r (omega (arith, c.requires.r_bound)) c.requires.cells_len c.copy_cells.ensures c.copy_cells-2.ensures
