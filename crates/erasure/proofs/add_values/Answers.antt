@@ -21,7 +21,7 @@ loop-i-preserved c =
     let l = c.loop-i in
     let a = c.args in (
       omega arith,
-      c.add_at.auto.0 ∙ l.invariant.1,
+      c.add_at.auto.cells ∙ l.invariant.1,
       word_next a.places.now l.cells _ _ a.v _ l.i (omega arith) (omega arith) l.invariant.2 c.cell_at.ensures c.add_at.ensures,
     )
 

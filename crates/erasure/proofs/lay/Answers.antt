@@ -27,7 +27,7 @@ pub loop-q-preserved : goal.loop-q-preserved
 loop-q-preserved c =
     let l = c.loop-q in
     let a = c.args in (
-      c.add_values.auto.1.1.0 ∙ l.invariant.0,
+      c.add_values.auto.cells ∙ l.invariant.0,
       omega arith,
       lay_more (quotient_at a.b a.d.now a.w.now) a.places.now a.points.now _ _ l.cells _ _ l.q (omega arith) l.invariant.2 c.load_word.ensures c.values_of-v.ensures c.add_values.ensures,
     )
