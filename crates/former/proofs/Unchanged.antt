@@ -62,9 +62,9 @@ asking_before n s = record {
 
 -- ---- adding
 
-room_for : (size end last : ℕ) (p : Plot) → added_as (room_for size end last p) ≡ former_room_for size end last p
+room_for_same : (size end last : ℕ) (p : Plot) → added_as (room_for size end last p) ≡ former_room_for size end last p
 unfolding room_for former_room_for
-room_for size end last p =
+room_for_same size end last p =
     through added_as (not (linesFit p.lines)) refl
     (through added_as (eqb p.number 0) refl
     (through_equal added_as (ap not (lines_as_before (lines_of p) no_line p.lines)) refl
@@ -74,7 +74,7 @@ room_for size end last p =
 
 room_of : (s : List ℕ) (p : Plot) (q : Parsed) → added_as (addedOf s p q) ≡ former_added_of s p (read q)
 unfolding addedOf former_added_of
-room_of s p (Plots ps end) = room_for (length s) end _ p
+room_of s p (Plots ps end) = room_for_same (length s) end _ p
 room_of s p (Stopped r) = refl
 
 room_same : (p : Plot) (s : List ℕ) → added_as (added p s) ≡ former_added p s

@@ -60,12 +60,12 @@ module _ (D n : ℕ) (block : ℕ → List ℕ) where
   pub interleave_cell : (i d : ℕ) → d < D → i < n → get_or (interleave D n block) (i * D + d) 0 ≡ get_or (block d) i 0
   unfolding interleave
   interleave_cell i d h l =
-      get_or_tab (D * n) _ (i * D + d) (at.cell-inside D n i d h l)
-      ∙ ap₂ (λ (e j : ℕ). get_or (block e) j 0) (at.remainder_of D i d h) (at.quotient-of D i d h)
+      get_or_tab (D * n) _ (i * D + d) (at.cell_inside D n i d h l)
+      ∙ ap₂ (λ (e j : ℕ). get_or (block e) j 0) (at.remainder_of D i d h) (at.quotient_of D i d h)
 
   pub interleave-bytes : ((d : ℕ) → d < D → Bytes (block d)) → Bytes (interleave D n block)
   unfolding interleave
-  interleave-bytes h = tab-bytes (D * n) _ (λ q l. get_or_byte (block (q % D)) (q / D) (h (q % D) (at.remainder-below D n q l)))
+  interleave-bytes h = tab-bytes (D * n) _ (λ q l. get_or_byte (block (q % D)) (q / D) (h (q % D) (at.remainder_below D n q l)))
 
   pub apart : (d : ℕ) → d < D → length (block d) ≡ n → block_of D n (interleave D n block) d ≡ block d
   apart d h e =
@@ -78,14 +78,14 @@ pub is_interleave : (D n : ℕ) (block : ℕ → List ℕ) (s : List ℕ) → le
 unfolding interleave
 is_interleave D n block s e h =
     is_tab (D * n) _ s e
-    (λ q l. ap (λ (x : ℕ). get_or s x 0) (sym (at.place_is D n q l)) ∙ h (q % D) (at.remainder-below D n q l) (q / D) (at.quotient-below D n q l))
+    (λ q l. ap (λ (x : ℕ). get_or s x 0) (sym (at.place_is D n q l)) ∙ h (q % D) (at.remainder_below D n q l) (q / D) (at.quotient_below D n q l))
 
 -- ---- messages
 
 module _ (D k : ℕ) (payload : List ℕ) (e : length payload ≡ D * k) (d : ℕ) (h : d < D) where
   pub message_length_lem : length (message_of k payload d) ≡ k
   unfolding message_of
-  message_length_lem = length-take-le k (drop (d * k) payload) (rw length-drop (omega (arith, at.part-inside D k d h)))
+  message_length_lem = length-take-le k (drop (d * k) payload) (rw length-drop (omega (arith, at.part_inside D k d h)))
 
 pub message_bytes : (k : ℕ) (payload : List ℕ) (d : ℕ) → Bytes payload → Bytes (message_of k payload d)
 unfolding message_of
@@ -101,10 +101,10 @@ module _ (D k q : ℕ) (l : q < D * k) where
   turned = rw (mul_comm k D) l
 
   pub message_below : q / k < D
-  message_below = at.quotient-below k D q turned
+  message_below = at.quotient_below k D q turned
 
   pub byte_below : q % k < k
-  byte_below = at.remainder-below k D q turned
+  byte_below = at.remainder_below k D q turned
 
 module _ (D k : ℕ) (message : ℕ → List ℕ) where
   pub joined_length : length (joined D k message) ≡ D * k
@@ -118,8 +118,8 @@ module _ (D k : ℕ) (message : ℕ → List ℕ) where
   pub joined-byte : (d j : ℕ) → d < D → j < k → get_or (joined D k message) (d * k + j) 0 ≡ get_or (message d) j 0
   unfolding joined
   joined-byte d j h l =
-      get_or_tab (D * k) _ (d * k + j) (let g : d * k + k ≤ D * k = at.part-inside D k d h in omega arith)
-      ∙ ap₂ (λ (e i : ℕ). get_or (message e) i 0) (at.quotient-of k d j l) (at.remainder_of k d j l)
+      get_or_tab (D * k) _ (d * k + j) (let g : d * k + k ≤ D * k = at.part_inside D k d h in omega arith)
+      ∙ ap₂ (λ (e i : ℕ). get_or (message e) i 0) (at.quotient_of k d j l) (at.remainder_of k d j l)
 
   pub taken : (d : ℕ) → d < D → length (message d) ≡ k → message_of k (joined D k message) d ≡ message d
   taken d h e =
@@ -153,7 +153,7 @@ module _ (k d : ℕ) (g : ℕ → List ℕ) (o s : List ℕ) (e : s ≡ joined d
       let z : d * k + k - d * k ≡ k = omega arith in
       let n : (d + 1) * k ≡ d * k + k = rw (add-one, suc-mul) in
       rw (e, z, n)
-      (part-more (d * k) k _ o w l c (λ j b. ap₂ (λ (m : List ℕ) (i : ℕ). get_or m i 0) (q ∙ ap g (sym (at.quotient-of k d j b))) (sym (at.remainder_of k d j b))))
+      (part-more (d * k) k _ o w l c (λ j b. ap₂ (λ (m : List ℕ) (i : ℕ). get_or m i 0) (q ∙ ap g (sym (at.quotient_of k d j b))) (sym (at.remainder_of k d j b))))
 
   -- the end
   pub rows_end : (D : ℕ) → d ≡ D → length o ≡ D * k → s ≡ joined D k g
@@ -170,7 +170,7 @@ module _ (D d e : ℕ) (h : d < D) (g : e < D) (i j : ℕ) (q : i * D + d ≡ j 
   same-remainder = sym (at.remainder_of D i d h) ∙ ap (λ (x : ℕ). x % D) q ∙ at.remainder_of D j e g
 
   pub same-quotient : i ≡ j
-  same-quotient = sym (at.quotient-of D i d h) ∙ ap (λ (x : ℕ). x / D) q ∙ at.quotient-of D j e g
+  same-quotient = sym (at.quotient_of D i d h) ∙ ap (λ (x : ℕ). x / D) q ∙ at.quotient_of D j e g
 
 pub laid_more : (m D d : ℕ) (w s t : List ℕ) → d < D → m * D + d < length t → Laid D m d w s t → Laid D (m + 1) d w s (set t (m * D + d) (get_or w m 0))
 laid_more m D d w s t h l u = record {
@@ -185,7 +185,7 @@ laid_more m D d w s t h l u = record {
 
 pub places : (D : ℕ) → Places D
 places D = record {
-  cell = λ n q sheet l. block_cell D n sheet (q % D) (q / D) (at.quotient-below D n q l) ∙ ap (λ (x : ℕ). get_or sheet x 0) (at.place_is D n q l);
+  cell = λ n q sheet l. block_cell D n sheet (q % D) (q / D) (at.quotient_below D n q l) ∙ ap (λ (x : ℕ). get_or sheet x 0) (at.place_is D n q l);
   byte = λ k q payload l. message_byte k payload (q / k) (q % k) (byte_below D k q l) ∙ ap (λ (x : ℕ). get_or payload x 0) (at.place_is k D q (turned D k q l));
 }
 

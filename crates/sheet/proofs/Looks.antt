@@ -30,7 +30,7 @@ module _ (p : Profile) (sheet scratch out : List ℕ) (v : InRange p) (h : Lent 
   law d = block_law Burst p (read_block p sheet d) v (whole d)
 
   look_verdict : (d : ℕ) → look_at p sheet d ≡ verdict p (read_block p sheet d)
-  look_verdict d = modes.look-verdict p (read_block p sheet d) v (whole d)
+  look_verdict d = modes.look_verdict p (read_block p sheet d) v (whole d)
 
   -- a look accepts exactly where the block has a codeword
   word_accepted : (d : ℕ) (c : List ℕ) → HasWord Burst p sheet d c → verdict_number (look_at p sheet d) ≡ 0

@@ -65,7 +65,7 @@ module _ (p : Profile) (m : List ℕ) (v : InRange p) (h : Payload p m) where
     unfolding read_block
     agrees i g o =
         block_cell p.depth p.n sheet d i g
-        ∙ z.agree (i * p.depth + d) (cell_inside p.depth p.n i d l g) (runs.stays-outside p.depth d l z.start z.size i o)
+        ∙ z.agree (i * p.depth + d) (cell_inside p.depth p.n i d l g) (runs.stays_outside p.depth d l z.start z.size i o)
         ∙ sym (block_cell p.depth p.n written d i g)
         ∙ ap (λ (y : List ℕ). get_or y i 0) (written_block_lem p m v h d l)
 
