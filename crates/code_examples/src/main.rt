@@ -4,42 +4,43 @@
 
 #![tactic(auto)]
 
-use libc::STDOUT_FILENO;
+use std::io;
 
 fn wide(x: u8) -> u64 {
     x as u64
 }
 
 // The low coefficients, and 1, the highest.
-fn coefficients(low: &[u8]) {
+fn coefficients(rt: &impl Print, low: &[u8]) -> io::Result<()> {
     let mut i = 0;
     while i < low.len() {
-        io::print_decimal(STDOUT_FILENO, wide(low[i]));
-        io::write_all(STDOUT_FILENO, b" ");
+        print!(rt; "{}", wide(low[i]))?;
+        rt.write_all(b" ")?;
         i += 1;
     }
-    io::write_all(STDOUT_FILENO, b"1\n");
+    rt.write_all(b"1\n")
 }
 
-fn line(b: usize, r: usize) {
+fn line(rt: &impl Print, b: usize, r: usize) -> io::Result<()> {
     if r <= 64 {
         let low = register::low_cells(register::lowered(register::generator_top(b, r), r));
-        coefficients(&low[..r]);
+        coefficients(rt, &low[..r])?;
     }
+    Ok(())
 }
 
-fn main() {
-    line(0, 3);
-    line(0, 2);
-    line(1, 2);
-    line(254, 2);
-    line(253, 4);
-    line(7, 5);
-    line(100, 10);
-    line(200, 16);
-    line(120, 33);
-    line(1, 63);
-    line(0, 64);
-    line(254, 64);
-    line(127, 64);
+fn main(rt: HostRuntime) -> io::Result<()> {
+    line(&rt, 0, 3)?;
+    line(&rt, 0, 2)?;
+    line(&rt, 1, 2)?;
+    line(&rt, 254, 2)?;
+    line(&rt, 253, 4)?;
+    line(&rt, 7, 5)?;
+    line(&rt, 100, 10)?;
+    line(&rt, 200, 16)?;
+    line(&rt, 120, 33)?;
+    line(&rt, 1, 63)?;
+    line(&rt, 0, 64)?;
+    line(&rt, 254, 64)?;
+    line(&rt, 127, 64)
 }

@@ -4,81 +4,78 @@
 
 #![tactic(auto)]
 
-use libc::STDOUT_FILENO;
+use std::io;
 
-fn print_line(left: u64, sign: &[u8], right: u64, value: u8) {
-    io::print_decimal(STDOUT_FILENO, left);
-    io::write_all(STDOUT_FILENO, sign);
-    io::print_decimal(STDOUT_FILENO, right);
-    io::write_all(STDOUT_FILENO, b" = ");
-    io::print_decimal(STDOUT_FILENO, value as u64);
-    io::write_all(STDOUT_FILENO, b"\n");
+fn print_line(rt: &impl Print, left: u64, sign: &[u8], right: u64, value: u8) -> io::Result<()> {
+    print!(rt; "{left}")?;
+    rt.write_all(sign)?;
+    println!(rt; "{right} = {value}")
 }
 
-fn product(x: u8, y: u8) {
-    print_line(x as u64, b" * ", y as u64, field::multiply(x, y));
+fn product(rt: &impl Print, x: u8, y: u8) -> io::Result<()> {
+    print_line(rt, x as u64, b" * ", y as u64, field::multiply(x, y))
 }
 
-fn inverse(x: u8) {
-    print_line(1, b" / ", x as u64, field::inverse(x));
+fn inverse(rt: &impl Print, x: u8) -> io::Result<()> {
+    print_line(rt, 1, b" / ", x as u64, field::inverse(x))
 }
 
-fn power(e: usize) {
-    print_line(2, b" ^ ", e as u64, field::alpha_power(e));
+fn power(rt: &impl Print, e: usize) -> io::Result<()> {
+    print_line(rt, 2, b" ^ ", e as u64, field::alpha_power(e))
 }
 
-fn products() {
-    product(0, 0);
-    product(0, 255);
-    product(1, 1);
-    product(1, 255);
-    product(2, 128);
-    product(128, 2);
-    product(255, 255);
-    product(29, 142);
-    product(142, 29);
-    product(2, 3);
-    product(3, 3);
-    product(16, 16);
-    product(17, 15);
-    product(19, 87);
-    product(83, 202);
-    product(100, 200);
-    product(128, 128);
-    product(171, 205);
-    product(240, 15);
-    product(254, 253);
-    product(90, 165);
+fn products(rt: &impl Print) -> io::Result<()> {
+    product(rt, 0, 0)?;
+    product(rt, 0, 255)?;
+    product(rt, 1, 1)?;
+    product(rt, 1, 255)?;
+    product(rt, 2, 128)?;
+    product(rt, 128, 2)?;
+    product(rt, 255, 255)?;
+    product(rt, 29, 142)?;
+    product(rt, 142, 29)?;
+    product(rt, 2, 3)?;
+    product(rt, 3, 3)?;
+    product(rt, 16, 16)?;
+    product(rt, 17, 15)?;
+    product(rt, 19, 87)?;
+    product(rt, 83, 202)?;
+    product(rt, 100, 200)?;
+    product(rt, 128, 128)?;
+    product(rt, 171, 205)?;
+    product(rt, 240, 15)?;
+    product(rt, 254, 253)?;
+    product(rt, 90, 165)
 }
 
-fn inverses() {
-    inverse(0);
-    inverse(1);
-    inverse(2);
-    inverse(3);
-    inverse(29);
-    inverse(142);
-    inverse(255);
-    inverse(128);
-    inverse(16);
-    inverse(91);
+fn inverses(rt: &impl Print) -> io::Result<()> {
+    inverse(rt, 0)?;
+    inverse(rt, 1)?;
+    inverse(rt, 2)?;
+    inverse(rt, 3)?;
+    inverse(rt, 29)?;
+    inverse(rt, 142)?;
+    inverse(rt, 255)?;
+    inverse(rt, 128)?;
+    inverse(rt, 16)?;
+    inverse(rt, 91)
 }
 
-fn powers() {
-    power(0);
-    power(1);
-    power(7);
-    power(8);
-    power(9);
-    power(25);
-    power(254);
-    power(255);
-    power(256);
-    power(65535);
+fn powers(rt: &impl Print) -> io::Result<()> {
+    power(rt, 0)?;
+    power(rt, 1)?;
+    power(rt, 7)?;
+    power(rt, 8)?;
+    power(rt, 9)?;
+    power(rt, 25)?;
+    power(rt, 254)?;
+    power(rt, 255)?;
+    power(rt, 256)?;
+    power(rt, 65535)
 }
 
-fn main() {
-    products();
-    inverses();
-    powers();
+fn main(rt: HostRuntime) -> io::Result<()> {
+    products(&rt)?;
+    inverses(&rt)?;
+    powers(&rt)
 }

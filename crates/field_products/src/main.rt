@@ -4,7 +4,7 @@
 
 #![tactic(auto)]
 
-use libc::STDOUT_FILENO;
+use std::io;
 
 const BYTES: usize = 256;
 
@@ -21,16 +21,15 @@ fn checksum(x: u8, inverted: bool) -> u64 {
     sum
 }
 
-fn print_line(left: u64, words: &[u8], right: u64) {
-    io::print_decimal(STDOUT_FILENO, left);
-    io::write_all(STDOUT_FILENO, words);
-    io::print_decimal(STDOUT_FILENO, right);
-    io::write_all(STDOUT_FILENO, b"\n");
+fn print_line(rt: &impl Print, left: u64, words: &[u8], right: u64) -> io::Result<()> {
+    print!(rt; "{left}")?;
+    rt.write_all(words)?;
+    println!(rt; "{right}")
 }
 
-fn main() {
+fn main(rt: HostRuntime) -> io::Result<()> {
     for x in 0..BYTES {
-        print_line(x as u64, b" * every byte: ", checksum(x as u8, false));
+        print_line(&rt, x as u64, b" * every byte: ", checksum(x as u8, false))?;
     }
-    print_line(1, b" / every byte: ", checksum(1, true));
+    print_line(&rt, 1, b" / every byte: ", checksum(1, true))
 }

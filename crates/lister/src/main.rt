@@ -3,10 +3,27 @@
 
 #![tactic(auto)]
 
-ghost use Rattle.std.specs.Prelude.{◌≤◌, length, take};
+ghost use Rattle.std.specs.Prelude.{◌≤◌, length, take, IfOk};
 ghost use Rattle.listing.specs.Theorems.{longest_text, enough_input, AnswersAll};
 
-use libc::{STDIN_FILENO, STDOUT_FILENO};
+use std::io;
+use std::io::{Input, Read};
+
+// Reads until the buffer is full or the input ends: how many bytes were put at its start.
+fn read_full(rt: &impl Input, buf: &mut [u8]) -> io::Result<usize>
+    ensures { IfOk result (λ n. n ≤ length buf.new) }
+{
+    let mut input = rt.reader();
+    let mut done = 0;
+    while done < buf.len() {
+        let n = input.read(&mut buf[done..])?;
+        if n == 0 {
+            break;
+        }
+        done += n;
+    }
+    Ok(done)
+}
 
 // The first bytes of `out`, as many as it answers, are the whole text for an input of which the first `count` bytes stand in the buffer.
 fn list_whole(buffer: &[u8], count: usize, out: &mut [u8]) -> usize
@@ -20,20 +37,20 @@ fn list_whole(buffer: &[u8], count: usize, out: &mut [u8]) -> usize
 }
 
 // No contract can name what is read and what is written: this one asks for the room.
-fn list_input(input: &mut [u8], out: &mut [u8])
+fn list_input(rt: &(impl Input + Print), input: &mut [u8], out: &mut [u8]) -> io::Result<()>
     requires enough_input_in_bounds { enough_input ≤ length input.old }
     requires longest_text_in_bounds { longest_text ≤ length out.old }
 {
-    let n = io::read_full(STDIN_FILENO, input);
+    let n = read_full(rt, input)?;
     let length = list_whole(input, n, out);
-    io::write_all(STDOUT_FILENO, &out[..length]);
+    rt.write_all(&out[..length])
 }
 
-fn main() {
+fn main(rt: HostRuntime) -> io::Result<()> {
     // `enough_input` bytes: five, 16 blocks of 255 cells, and one more, so that a longer input is seen to be longer (theorem `enough-input` of the
     // listing crate).
     let mut input = [0u8; 4086];
     // `longest_text` bytes: no text is longer (theorem `text-fits` of the listing crate).
     let mut out = [0u8; 22968];
-    list_input(&mut input, &mut out);
+    list_input(&rt, &mut input, &mut out)
 }

@@ -100,5 +100,5 @@ pub(crate) fn put_record(s: &mut [u8], plot: u16, lines: &[u8])
 {
     let count = (lines.len() / 3) as u8;
     put_header(&mut s[..HEADER], plot, count);
-    bytes::copy(lines, &mut s[HEADER..]);
+    s[HEADER..].copy_from_slice(lines);
 }

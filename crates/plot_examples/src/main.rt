@@ -3,94 +3,97 @@
 
 #![tactic(auto)]
 
-use libc::STDOUT_FILENO;
 use plot::{Added, Checked, Located, Refusal};
+use std::io;
 
 // The text for a payload, printed.
-fn list(payload: &[u8]) {
+fn list(rt: &impl Print, payload: &[u8]) -> io::Result<()> {
     let mut out = [0u8; 256];
     let n = listing_text::write_listing(payload, 0, &mut out);
-    io::write_all(STDOUT_FILENO, &out[..n]);
+    rt.write_all(&out[..n])
 }
 
-fn digit(n: usize) {
+fn digit(rt: &impl Print, n: usize) -> io::Result<()> {
     let out = [(48 + n % 10) as u8];
-    io::write_all(STDOUT_FILENO, &out);
+    rt.write_all(&out)
 }
 
 // Document 02's two numbers beside a refusal, each one digit here.
-fn figure(r: Refusal) {
-    io::write_all(STDOUT_FILENO, b"figure ");
-    digit(r.figure() as usize);
-    io::write_all(STDOUT_FILENO, b", line ");
-    digit(r.index());
-    io::write_all(STDOUT_FILENO, b"\n");
+fn figure(rt: &impl Print, r: Refusal) -> io::Result<()> {
+    rt.write_all(b"figure ")?;
+    digit(rt, r.figure() as usize)?;
+    rt.write_all(b", line ")?;
+    digit(rt, r.index())?;
+    rt.write_all(b"\n")
 }
 
-fn refuse(r: Refusal) {
+fn refuse(rt: &impl Print, r: Refusal) -> io::Result<()> {
     let mut out = [0u8; 64];
     let n = listing_text::write_refusal(r.number(), r.place(), &mut out);
-    io::write_all(STDOUT_FILENO, &out[..n]);
-    figure(r);
+    rt.write_all(&out[..n])?;
+    figure(rt, r)
 }
 
 // The text for a payload, and why it is refused.
-fn check(payload: &[u8]) {
-    list(payload);
+fn check(rt: &impl Print, payload: &[u8]) -> io::Result<()> {
+    list(rt, payload)?;
     match plot::check(payload) {
-        Checked::Accepted(_) => {}
-        Checked::Refused(r) => figure(r),
+        Checked::Accepted(_) => Ok(()),
+        Checked::Refused(r) => figure(rt, r),
     }
 }
 
 // A plot is added, and the payload listed; or the refusal.
-fn add(payload: &mut [u8], plot: u16, lines: &[u8]) {
+fn add(rt: &impl Print, payload: &mut [u8], plot: u16, lines: &[u8]) -> io::Result<()> {
     match plot::add(payload, plot, lines) {
-        Added::At(_) => list(payload),
-        Added::Refused(r) => refuse(r),
+        Added::At(_) => list(rt, payload),
+        Added::Refused(r) => refuse(rt, r),
     }
 }
 
 // The record of a plot, listed on its own; or the refusal.
-fn ask(payload: &[u8], plot: u16) {
+fn ask(rt: &impl Print, payload: &[u8], plot: u16) -> io::Result<()> {
     match plot::locate(payload, plot) {
-        Located::At { start: _, len: _ } => list(plot::ask(payload, plot)),
-        Located::Refused(r) => refuse(r),
+        Located::At { start: _, len: _ } => list(rt, plot::ask(payload, plot)),
+        Located::Refused(r) => refuse(rt, r),
     }
 }
 
-fn examples() {
+fn examples(rt: &impl Print) -> io::Result<()> {
     let mut eight = [0u8; 8];
-    add(&mut eight, 7, b"\x03\x20\x02");
+    add(rt, &mut eight, 7, b"\x03\x20\x02")?;
     let mut seven = [0u8; 7];
-    add(&mut seven, 7, b"\x03\x20\x02");
+    add(rt, &mut seven, 7, b"\x03\x20\x02")?;
     let mut two = [0u8; 40];
-    add(&mut two, 7, b"\x03\x20\x02\x03\x21\x01");
-    add(&mut two, 300, b"\x01\x64\xff");
-    add(&mut two, 300, b"\x01\x64\xff");
-    add(&mut two, 301, b"\x01\x64\xff\x01\x64\xff");
-    add(&mut two, 0, b"");
-    ask(&two, 300);
-    ask(&two, 8);
+    add(rt, &mut two, 7, b"\x03\x20\x02\x03\x21\x01")?;
+    add(rt, &mut two, 300, b"\x01\x64\xff")?;
+    add(rt, &mut two, 300, b"\x01\x64\xff")?;
+    add(rt, &mut two, 301, b"\x01\x64\xff\x01\x64\xff")?;
+    add(rt, &mut two, 0, b"")?;
+    ask(rt, &two, 300)?;
+    ask(rt, &two, 8)
 }
 
-fn refusals() {
-    check(b"\x50");
-    check(b"\x51");
-    check(b"\x50\x4d");
-    check(b"\x50\x4c\x07\x00\x00\x00\x00\x01");
-    check(b"\x50\x4c\x07\x00");
-    check(b"\x50\x4c\x07\x00\x29");
-    check(b"\x50\x4c\x07\x00\x01\x03\xc9\x02");
-    check(b"\x50\x4c\x07\x00\x03\x03\x20\x02\x03\x21\x01\x03\x22\x00");
-    check(b"\x50\x4c\x07\x00\x02\x03\x20\x02\x03\x20\x01");
-    check(b"\x50\x4c\x07\x00\x01\x64\xc9\x02");
-    check(b"\x50\x4c\x07\x00\x00\x50\x4c\x07\x00\x00");
+fn refusals(rt: &impl Print) -> io::Result<()> {
+    check(rt, b"\x50")?;
+    check(rt, b"\x51")?;
+    check(rt, b"\x50\x4d")?;
+    check(rt, b"\x50\x4c\x07\x00\x00\x00\x00\x01")?;
+    check(rt, b"\x50\x4c\x07\x00")?;
+    check(rt, b"\x50\x4c\x07\x00\x29")?;
+    check(rt, b"\x50\x4c\x07\x00\x01\x03\xc9\x02")?;
+    check(
+        rt,
+        b"\x50\x4c\x07\x00\x03\x03\x20\x02\x03\x21\x01\x03\x22\x00",
+    )?;
+    check(rt, b"\x50\x4c\x07\x00\x02\x03\x20\x02\x03\x20\x01")?;
+    check(rt, b"\x50\x4c\x07\x00\x01\x64\xc9\x02")?;
+    check(rt, b"\x50\x4c\x07\x00\x00\x50\x4c\x07\x00\x00")?;
     let long = [0u8; 4049];
-    check(&long);
+    check(rt, &long)
 }
 
-fn main() {
-    examples();
-    refusals();
+fn main(rt: HostRuntime) -> io::Result<()> {
+    examples(&rt)?;
+    refusals(&rt)
 }

@@ -70,7 +70,7 @@ fn write_message(
     }
     gather(sheet, d, depth, scratch);
     fill_in(mode, p, d, run, errors, scratch, word);
-    bytes::copy(&word[r..], message);
+    message.copy_from_slice(&word[r..]);
 }
 
 // The messages of all blocks, by what was found of each.

@@ -66,7 +66,7 @@ fn keep_error(error: Register, size: usize, d: usize, errors: &mut [u8])
     }
     let row = register::low_cells(error);
     let a = d * 64;
-    bytes::copy(&row[..], &mut errors[a..a + 64]);
+    errors[a..a + 64].copy_from_slice(&row[..]);
 }
 
 // What was found of block d is written down.

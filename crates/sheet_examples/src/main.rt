@@ -3,53 +3,57 @@
 
 #![tactic(auto)]
 
-use libc::STDOUT_FILENO;
 use profile::Profile;
 use sheet::{Mode, Reading, Refusal};
+use std::io;
 
-fn print_number(n: usize) {
-    io::write_all(STDOUT_FILENO, b" ");
-    io::print_decimal(STDOUT_FILENO, n as u64);
+fn print_number(rt: &impl Print, n: usize) -> io::Result<()> {
+    print!(rt; " {n}")
 }
 
-fn print_bytes(bytes: &[u8]) {
+fn print_bytes(rt: &impl Print, bytes: &[u8]) -> io::Result<()> {
     let mut i: usize = 0;
     while i < bytes.len() {
-        print_number(bytes[i] as usize);
+        print_number(rt, bytes[i] as usize)?;
         i += 1;
     }
-    io::write_all(STDOUT_FILENO, b"\n");
+    rt.write_all(b"\n")
 }
 
-fn print_refusal(refusal: Refusal) {
-    io::write_all(STDOUT_FILENO, b"refused");
-    print_number(refusal.number());
-    print_number(refusal.place());
-    io::write_all(STDOUT_FILENO, b"\n");
+fn print_refusal(rt: &impl Print, refusal: Refusal) -> io::Result<()> {
+    rt.write_all(b"refused")?;
+    print_number(rt, refusal.number())?;
+    print_number(rt, refusal.place())?;
+    rt.write_all(b"\n")
 }
 
-fn print_answer(reading: Reading) {
+fn print_answer(rt: &impl Print, reading: Reading) -> io::Result<()> {
     match reading {
-        Reading::Refused(refusal) => print_refusal(refusal),
+        Reading::Refused(refusal) => print_refusal(rt, refusal),
         Reading::Accepted { changed } => {
-            io::write_all(STDOUT_FILENO, b"changed");
-            print_number(changed);
-            io::write_all(STDOUT_FILENO, b"\n");
+            rt.write_all(b"changed")?;
+            print_number(rt, changed)?;
+            rt.write_all(b"\n")
         }
     }
 }
 
 // The answer, and what stands in both buffers afterwards.
-fn print_reading(reading: Reading, payload: &[u8], scratch: &[u8]) {
-    print_answer(reading);
-    io::write_all(STDOUT_FILENO, b"payload");
-    print_bytes(payload);
-    io::write_all(STDOUT_FILENO, b"scratch");
-    print_bytes(scratch);
+fn print_reading(
+    rt: &impl Print,
+    reading: Reading,
+    payload: &[u8],
+    scratch: &[u8],
+) -> io::Result<()> {
+    print_answer(rt, reading)?;
+    rt.write_all(b"payload")?;
+    print_bytes(rt, payload)?;
+    rt.write_all(b"scratch")?;
+    print_bytes(rt, scratch)
 }
 
 // Payload 1 0 as two blocks of four cells.
-fn write_small() {
+fn write_small(rt: &impl Print) -> io::Result<()> {
     let p = Profile {
         n: 4,
         r: 3,
@@ -59,14 +63,14 @@ fn write_small() {
     };
     let mut cells = [0u8; 8];
     let written = sheet::write(p, &[1, 0], &mut cells);
-    io::write_all(STDOUT_FILENO, b"written");
-    print_number(written.number());
-    io::write_all(STDOUT_FILENO, b":");
-    print_bytes(&cells);
+    rt.write_all(b"written")?;
+    print_number(rt, written.number())?;
+    rt.write_all(b":")?;
+    print_bytes(rt, &cells)
 }
 
 // Eight blocks of three cells.
-fn read_worked(cells: &[u8], limit: usize) {
+fn read_worked(rt: &impl Print, cells: &[u8], limit: usize) -> io::Result<()> {
     let p = Profile {
         n: 3,
         r: 2,
@@ -77,11 +81,11 @@ fn read_worked(cells: &[u8], limit: usize) {
     let mut scratch = [9u8; 3];
     let mut payload = [9u8; 8];
     let reading = sheet::read(p, cells, &mut scratch, &mut payload);
-    print_reading(reading, &payload, &scratch);
+    print_reading(rt, reading, &payload, &scratch)
 }
 
 // Two blocks of four cells.
-fn read_small(mode: Mode, cells: [u8; 8], limit: usize) {
+fn read_small(rt: &impl Print, mode: Mode, cells: [u8; 8], limit: usize) -> io::Result<()> {
     let p = Profile {
         n: 4,
         r: 3,
@@ -92,11 +96,11 @@ fn read_small(mode: Mode, cells: [u8; 8], limit: usize) {
     let mut scratch = [9u8; 4];
     let mut payload = [9u8; 2];
     let reading = sheet::read_in(mode, p, &cells, &mut scratch, &mut payload);
-    print_reading(reading, &payload, &scratch);
+    print_reading(rt, reading, &payload, &scratch)
 }
 
 // The first of them alone: too short a sheet for two blocks.
-fn read_short() {
+fn read_short(rt: &impl Print) -> io::Result<()> {
     let p = Profile {
         n: 4,
         r: 3,
@@ -107,11 +111,11 @@ fn read_short() {
     let mut scratch = [9u8; 4];
     let mut payload = [9u8; 2];
     let reading = sheet::read(p, &[8, 14, 7, 1], &mut scratch, &mut payload);
-    print_reading(reading, &payload, &scratch);
+    print_reading(rt, reading, &payload, &scratch)
 }
 
 // A clean sheet of two blocks, with a scratch of D × n bytes, where n are due.
-fn read_with_long_scratch(mode: Mode) {
+fn read_with_long_scratch(rt: &impl Print, mode: Mode) -> io::Result<()> {
     let p = Profile {
         n: 4,
         r: 3,
@@ -128,7 +132,7 @@ fn read_with_long_scratch(mode: Mode) {
         &mut scratch,
         &mut payload,
     );
-    print_reading(reading, &payload, &scratch);
+    print_reading(rt, reading, &payload, &scratch)
 }
 
 // 8 14 7 1, and 8 14 0 0, which is refused.
@@ -136,32 +140,34 @@ fn refused_cells() -> [u8; 8] {
     [8, 8, 14, 14, 7, 0, 1, 0]
 }
 
-fn read_burst() {
+fn read_burst(rt: &impl Print) -> io::Result<()> {
     // The sheet of document 01, "The plot lister"; then the same with its first eight cells lost.
     read_worked(
+        rt,
         b"\xa0\x98\x0e\x00\x02\x06\x40\x04\xf0\xd4\x09\x00\x03\x05\x60\x06\x50\x4c\x07\x00\x01\x03\x20\x02",
         1,
-    );
+    )?;
     read_worked(
+        rt,
         b"\x00\x00\x00\x00\x00\x00\x00\x00\xf0\xd4\x09\x00\x03\x05\x60\x06\x50\x4c\x07\x00\x01\x03\x20\x02",
         1,
-    );
-    read_small(Mode::Burst, refused_cells(), 1);
-    read_small(Mode::Burst, refused_cells(), 2);
-    read_small(Mode::Burst, refused_cells(), 3);
-    read_short();
-    read_with_long_scratch(Mode::Burst);
+    )?;
+    read_small(rt, Mode::Burst, refused_cells(), 1)?;
+    read_small(rt, Mode::Burst, refused_cells(), 2)?;
+    read_small(rt, Mode::Burst, refused_cells(), 3)?;
+    read_short(rt)?;
+    read_with_long_scratch(rt, Mode::Burst)
 }
 
-fn read_spots() {
+fn read_spots(rt: &impl Print) -> io::Result<()> {
     // 8 14 7 1 and 0 0 0 0, with one cell of each changed.
-    read_small(Mode::Spots, [9, 0, 14, 0, 7, 0, 1, 5], 0);
-    read_small(Mode::Spots, refused_cells(), 2);
-    read_with_long_scratch(Mode::Spots);
+    read_small(rt, Mode::Spots, [9, 0, 14, 0, 7, 0, 1, 5], 0)?;
+    read_small(rt, Mode::Spots, refused_cells(), 2)?;
+    read_with_long_scratch(rt, Mode::Spots)
 }
 
-fn main() {
-    write_small();
-    read_burst();
-    read_spots();
+fn main(rt: HostRuntime) -> io::Result<()> {
+    write_small(&rt)?;
+    read_burst(&rt)?;
+    read_spots(&rt)
 }

@@ -48,7 +48,7 @@ fn correct_located(p: Profile, syndromes: &[u8], read: &[u8], out: &mut [u8]) ->
     }
     let count = located.count;
     let places = located.places;
-    bytes::copy(read, out);
+    out.copy_from_slice(read);
     fill_located(p.b, syndromes, located, out);
     Verdict::CorrectedCells {
         count,
@@ -86,7 +86,7 @@ pub fn correct(p: Profile, read: &[u8], out: &mut [u8]) -> Verdict
     }
     let rest = block::remainder(p, read);
     if register::is_zero(rest) {
-        bytes::copy(read, out);
+        out.copy_from_slice(read);
         return Verdict::CorrectedCells {
             count: 0,
             lowest: 0,

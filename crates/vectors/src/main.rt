@@ -7,12 +7,13 @@
 
 #![tactic(auto)]
 
-ghost use Rattle.std.specs.Prelude.{◌<◌, ◌≤◌};
+ghost use Rattle.std.specs.Prelude.{◌<◌, ◌≤◌, length, IfOk};
 
-use libc::{STDIN_FILENO, STDOUT_FILENO};
 use plot::{Added, Located};
 use profile::Profile;
 use sheet::{Mode, Reading};
+use std::io;
+use std::io::{Input, Read};
 use tables::stand_table;
 
 mod tables;
@@ -38,11 +39,27 @@ fn byte(one: &[u8; 1]) -> u8 {
     one[0]
 }
 
+// Reads until the buffer is full or the input ends: how many bytes were put at its start.
+fn read_full(rt: &impl Input, buf: &mut [u8]) -> io::Result<usize>
+    ensures { IfOk result (λ n. n ≤ length buf.new) }
+{
+    let mut input = rt.reader();
+    let mut done = 0;
+    while done < buf.len() {
+        let n = input.read(&mut buf[done..])?;
+        if n == 0 {
+            break;
+        }
+        done += n;
+    }
+    Ok(done)
+}
+
 // The next byte; 255 at the end of the input.
-pub(crate) fn next_byte() -> u8 {
+pub(crate) fn next_byte(rt: &impl Input) -> io::Result<u8> {
     let mut one = [255u8; 1];
-    io::read_full(STDIN_FILENO, &mut one);
-    byte(&one)
+    read_full(rt, &mut one)?;
+    Ok(byte(&one))
 }
 
 fn value(pair: &[u8; 2]) -> usize
@@ -51,272 +68,273 @@ fn value(pair: &[u8; 2]) -> usize
     wide(pair[0]) + 256 * wide(pair[1])
 }
 
-pub(crate) fn word() -> usize
-    ensures { result < 65536 }
+pub(crate) fn word(rt: &impl Input) -> io::Result<usize>
+    ensures { IfOk result (λ n. n < 65536) }
 {
     let mut pair = [0u8; 2];
-    io::read_full(STDIN_FILENO, &mut pair);
-    value(&pair)
+    read_full(rt, &mut pair)?;
+    Ok(value(&pair))
 }
 
 // A number of eight bytes, the low one first.
-fn long() -> usize {
-    let a = word() as u64;
-    let b = word() as u64;
-    let c = word() as u64;
-    let d = word() as u64;
-    (a ^ (b << 16) ^ (c << 32) ^ (d << 48)) as usize
+fn long(rt: &impl Input) -> io::Result<usize> {
+    let a = word(rt)? as u64;
+    let b = word(rt)? as u64;
+    let c = word(rt)? as u64;
+    let d = word(rt)? as u64;
+    Ok((a ^ (b << 16) ^ (c << 32) ^ (d << 48)) as usize)
 }
 
 // A number of four bytes, the low one first.
-pub(crate) fn count() -> u32 {
-    let low = word() as u32;
-    let high = word() as u32;
-    low ^ (high << 16)
+pub(crate) fn count(rt: &impl Input) -> io::Result<u32> {
+    let low = word(rt)? as u32;
+    let high = word(rt)? as u32;
+    Ok(low ^ (high << 16))
 }
 
-fn plot_number() -> u16 {
-    word() as u16
+fn plot_number(rt: &impl Input) -> io::Result<u16> {
+    Ok(word(rt)? as u16)
 }
 
-fn profile() -> Profile {
-    let n = word();
-    let r = word();
-    let b = word();
-    let limit = word();
-    let depth = word();
-    Profile {
+fn profile(rt: &impl Input) -> io::Result<Profile> {
+    let n = word(rt)?;
+    let r = word(rt)?;
+    let b = word(rt)?;
+    let limit = word(rt)?;
+    let depth = word(rt)?;
+    Ok(Profile {
         n,
         r,
         b,
         limit,
         depth,
-    }
+    })
 }
 
 // As much of the space as the next word says, at most all of it.
-fn part(space: &mut [u8]) -> &mut [u8] {
-    let n = least(word(), space.len());
-    &mut space[..n]
+fn part<'a>(rt: &impl Input, space: &'a mut [u8]) -> io::Result<&'a mut [u8]> {
+    let n = least(word(rt)?, space.len());
+    Ok(&mut space[..n])
 }
 
 // The next buffer, its length and then its bytes, read into the space.
-pub(crate) fn buffer(space: &mut [u8]) -> &mut [u8] {
-    let lent = part(space);
-    io::read_full(STDIN_FILENO, lent);
-    lent
+pub(crate) fn buffer<'a>(rt: &impl Input, space: &'a mut [u8]) -> io::Result<&'a mut [u8]> {
+    let lent = part(rt, space)?;
+    read_full(rt, lent)?;
+    Ok(lent)
 }
 
 // ---- printing
 
-pub(crate) fn first(x: usize) {
-    io::print_decimal(STDOUT_FILENO, x as u64);
+pub(crate) fn first(rt: &impl Print, x: usize) -> io::Result<()> {
+    print!(rt; "{x}")
 }
 
-pub(crate) fn next(x: usize) {
-    io::write_all(STDOUT_FILENO, b" ");
-    io::print_decimal(STDOUT_FILENO, x as u64);
+pub(crate) fn next(rt: &impl Print, x: usize) -> io::Result<()> {
+    print!(rt; " {x}")
 }
 
-fn cells(s: &[u8]) {
+fn cells(rt: &impl Print, s: &[u8]) -> io::Result<()> {
     let mut i = 0;
     while i < s.len() {
-        next(wide(s[i]));
+        next(rt, wide(s[i]))?;
         i += 1;
     }
+    Ok(())
 }
 
-fn two(x: usize, y: usize) {
-    first(x);
-    next(y);
+fn two(rt: &impl Print, x: usize, y: usize) -> io::Result<()> {
+    first(rt, x)?;
+    next(rt, y)
 }
 
-fn end() {
-    io::write_all(STDOUT_FILENO, b"\n");
+fn end(rt: &impl Print) -> io::Result<()> {
+    rt.write_all(b"\n")
 }
 
 // ---- blocks; the second buffer has as many bytes as the stream says, each 170
 
-fn correct(p: Profile) {
+fn correct(rt: &(impl Input + Print), p: Profile) -> io::Result<()> {
     let mut space = [0u8; 4096];
-    let read = buffer(&mut space);
+    let read = buffer(rt, &mut space)?;
     let mut second = [170u8; 512];
-    let out = part(&mut second);
+    let out = part(rt, &mut second)?;
     let v = block::correct(p, read, out);
-    two(v.number(), v.start());
-    next(v.length());
-    cells(out);
+    two(rt, v.number(), v.start())?;
+    next(rt, v.length())?;
+    cells(rt, out)
 }
 
-fn look(p: Profile) {
+fn look(rt: &(impl Input + Print), p: Profile) -> io::Result<()> {
     let mut space = [0u8; 4096];
-    let read = buffer(&mut space);
+    let read = buffer(rt, &mut space)?;
     let v = block::look(p, read);
-    two(v.number(), v.start());
-    next(v.length());
+    two(rt, v.number(), v.start())?;
+    next(rt, v.length())
 }
 
-fn fill(p: Profile) {
+fn fill(rt: &(impl Input + Print), p: Profile) -> io::Result<()> {
     let mut space = [0u8; 4096];
-    let read = buffer(&mut space);
-    let start = long();
-    let length = long();
+    let read = buffer(rt, &mut space)?;
+    let start = long(rt)?;
+    let length = long(rt)?;
     let mut second = [170u8; 512];
-    let out = part(&mut second);
-    first(block::fill(p, read, start, length, out).number());
-    cells(out);
+    let out = part(rt, &mut second)?;
+    first(rt, block::fill(p, read, start, length, out).number())?;
+    cells(rt, out)
 }
 
-fn list(p: Profile) {
+fn list(rt: &(impl Input + Print), p: Profile) -> io::Result<()> {
     let mut space = [0u8; 4096];
-    let read = buffer(&mut space);
+    let read = buffer(rt, &mut space)?;
     let mut second = [170u8; 512];
-    let pairs = part(&mut second);
+    let pairs = part(rt, &mut second)?;
     let answer = candidates::list(p, read, pairs);
-    two(answer.number(), answer.count());
-    cells(pairs);
+    two(rt, answer.number(), answer.count())?;
+    cells(rt, pairs)
 }
 
-fn correct_spots(p: Profile) {
+fn correct_spots(rt: &(impl Input + Print), p: Profile) -> io::Result<()> {
     let mut space = [0u8; 4096];
-    let read = buffer(&mut space);
+    let read = buffer(rt, &mut space)?;
     let mut second = [170u8; 512];
-    let out = part(&mut second);
+    let out = part(rt, &mut second)?;
     let v = spots::correct(p, read, out);
-    two(v.number(), v.count());
-    next(v.lowest());
-    cells(out);
+    two(rt, v.number(), v.count())?;
+    next(rt, v.lowest())?;
+    cells(rt, out)
 }
 
-fn write(p: Profile) {
+fn write(rt: &(impl Input + Print), p: Profile) -> io::Result<()> {
     let mut space = [0u8; 4096];
-    let message = buffer(&mut space);
+    let message = buffer(rt, &mut space)?;
     let mut second = [170u8; 512];
-    let out = part(&mut second);
-    first(block::write(p, message, out).number());
-    cells(out);
+    let out = part(rt, &mut second)?;
+    first(rt, block::write(p, message, out).number())?;
+    cells(rt, out)
 }
 
-fn check(p: Profile) {
+fn check(rt: &(impl Input + Print), p: Profile) -> io::Result<()> {
     let mut space = [0u8; 4096];
-    let read = buffer(&mut space);
+    let read = buffer(rt, &mut space)?;
     let c = block::check(p, read);
-    two(c.number(), c.clean());
+    two(rt, c.number(), c.clean())
 }
 
 // ---- sheets
 
-fn write_sheet(p: Profile) {
+fn write_sheet(rt: &(impl Input + Print), p: Profile) -> io::Result<()> {
     let mut first_space = [0u8; 4096];
-    let payload = buffer(&mut first_space);
+    let payload = buffer(rt, &mut first_space)?;
     let mut second_space = [0u8; 4096];
-    let sheet = buffer(&mut second_space);
-    two(sheet::write(p, payload, sheet).number(), 0);
-    cells(sheet);
+    let sheet = buffer(rt, &mut second_space)?;
+    two(rt, sheet::write(p, payload, sheet).number(), 0)?;
+    cells(rt, sheet)
 }
 
-fn read_sheet(m: Mode, p: Profile) {
+fn read_sheet(rt: &(impl Input + Print), m: Mode, p: Profile) -> io::Result<()> {
     let mut first_space = [0u8; 4096];
-    let sheet = buffer(&mut first_space);
+    let sheet = buffer(rt, &mut first_space)?;
     let mut second_space = [0u8; 4096];
-    let scratch = buffer(&mut second_space);
+    let scratch = buffer(rt, &mut second_space)?;
     let mut third_space = [0u8; 4096];
-    let payload = buffer(&mut third_space);
+    let payload = buffer(rt, &mut third_space)?;
     match sheet::read_in(m, p, sheet, scratch, payload) {
-        Reading::Accepted { changed } => two(0, changed),
-        Reading::Refused(r) => two(r.number(), r.place()),
+        Reading::Accepted { changed } => two(rt, 0, changed)?,
+        Reading::Refused(r) => two(rt, r.number(), r.place())?,
     }
-    cells(scratch);
-    cells(payload);
+    cells(rt, scratch)?;
+    cells(rt, payload)
 }
 
 // ---- payloads
 
-fn refused(r: plot::Refusal) {
-    two(wide(r.number()), r.place());
+fn refused(rt: &impl Print, r: plot::Refusal) -> io::Result<()> {
+    two(rt, wide(r.number()), r.place())
 }
 
 // Figure and index of the line at fault.
-pub(crate) fn fault(figure: u8, index: usize) {
-    next(wide(figure));
-    next(index);
+pub(crate) fn fault(rt: &impl Print, figure: u8, index: usize) -> io::Result<()> {
+    next(rt, wide(figure))?;
+    next(rt, index)
 }
 
-fn check_payload() {
+fn check_payload(rt: &(impl Input + Print)) -> io::Result<()> {
     let mut space = [0u8; 4096];
-    let payload = buffer(&mut space);
+    let payload = buffer(rt, &mut space)?;
     let answer = plot::check(payload);
     match answer {
-        plot::Checked::Accepted(c) => two(0, c.at),
-        plot::Checked::Refused(r) => refused(r),
+        plot::Checked::Accepted(c) => two(rt, 0, c.at)?,
+        plot::Checked::Refused(r) => refused(rt, r)?,
     }
-    fault(answer.figure(), answer.index());
+    fault(rt, answer.figure(), answer.index())
 }
 
-fn ask() {
+fn ask(rt: &(impl Input + Print)) -> io::Result<()> {
     let mut space = [0u8; 4096];
-    let payload = buffer(&mut space);
-    let plot = plot_number();
+    let payload = buffer(rt, &mut space)?;
+    let plot = plot_number(rt)?;
     let answer = plot::locate(payload, plot);
     match answer {
         Located::At { start, len } => {
-            two(0, start);
-            next(len);
+            two(rt, 0, start)?;
+            next(rt, len)?;
         }
         Located::Refused(r) => {
-            refused(r);
-            next(0);
+            refused(rt, r)?;
+            next(rt, 0)?;
         }
     }
-    fault(answer.figure(), answer.index());
-    cells(plot::ask(payload, plot));
+    fault(rt, answer.figure(), answer.index())?;
+    cells(rt, plot::ask(payload, plot))
 }
 
-fn add() {
+fn add(rt: &(impl Input + Print)) -> io::Result<()> {
     let mut first_space = [0u8; 4096];
-    let payload = buffer(&mut first_space);
-    let plot = plot_number();
+    let payload = buffer(rt, &mut first_space)?;
+    let plot = plot_number(rt)?;
     let mut second_space = [0u8; 4096];
-    let lines = buffer(&mut second_space);
+    let lines = buffer(rt, &mut second_space)?;
     let answer = plot::add(payload, plot, lines);
     match answer {
-        Added::At(start) => two(0, start),
-        Added::Refused(r) => refused(r),
+        Added::At(start) => two(rt, 0, start)?,
+        Added::Refused(r) => refused(rt, r)?,
     }
-    fault(answer.figure(), answer.index());
-    cells(payload);
+    fault(rt, answer.figure(), answer.index())?;
+    cells(rt, payload)
 }
 
 // A vector after its first byte.
-fn vector(o: u8) {
+fn vector(rt: &(impl Input + Print), o: u8) -> io::Result<()> {
     match o {
-        0 => correct(profile()),
-        1 => write(profile()),
-        2 => check(profile()),
-        3 => write_sheet(profile()),
-        4 => read_sheet(Mode::Burst, profile()),
-        5 => check_payload(),
-        6 => ask(),
-        7 => add(),
-        8 => correct_spots(profile()),
-        9 => read_sheet(Mode::Spots, profile()),
-        10 => look(profile()),
-        11 => fill(profile()),
-        12 => stand_table(),
-        _ => list(profile()),
+        0 => correct(rt, profile(rt)?)?,
+        1 => write(rt, profile(rt)?)?,
+        2 => check(rt, profile(rt)?)?,
+        3 => write_sheet(rt, profile(rt)?)?,
+        4 => read_sheet(rt, Mode::Burst, profile(rt)?)?,
+        5 => check_payload(rt)?,
+        6 => ask(rt)?,
+        7 => add(rt)?,
+        8 => correct_spots(rt, profile(rt)?)?,
+        9 => read_sheet(rt, Mode::Spots, profile(rt)?)?,
+        10 => look(rt, profile(rt)?)?,
+        11 => fill(rt, profile(rt)?)?,
+        12 => stand_table(rt)?,
+        _ => list(rt, profile(rt)?)?,
     }
-    end();
+    end(rt)
 }
 
 // At most 2,000 vectors, so that it ends.
-fn main() {
+fn main(rt: HostRuntime) -> io::Result<()> {
     let mut left: usize = 2000;
     while 0 < left {
-        let o = next_byte();
+        let o = next_byte(&rt)?;
         if o == 255 {
-            return;
+            return Ok(());
         }
-        vector(o);
+        vector(&rt, o)?;
         left -= 1;
     }
+    Ok(())
 }
