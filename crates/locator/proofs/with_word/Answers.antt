@@ -6,6 +6,7 @@ use Rattle.locator.specs.declared.Located.{Located}
 use Rattle.products.proofs.Values.{point_at}
 use Rattle.locator.proofs.Places.{word_none, word_root, word_other}
 use Rattle.locator.proofs.with_word.Goals as goal
+use Rattle.locator.proofs.with_word.Goals.{then-cell_at-eq0, else-cell_at-eq0}
 
 pub loop-i-init : goal.loop-i-init
 loop-i-init c = (omega arith, omega (arith, c.requires.count_le_j), λ P E v e. word_none P E c.args.j _ e)
@@ -31,19 +32,19 @@ pub loop-i-preserved : goal.loop-i-preserved
 loop-i-preserved c =
     let l = c.loop-i in
     let v = c.cell_at.ensures in
-    ⊎_elim
-    (λ w. (
-      omega arith,
-      omega (arith, w.2.ensures.0, ap (λ (f : Located). f.count) w.3),
-      λ P E q e. word_root P E c.args.values c.args.points c.args.j l.i _ l.all (omega (arith, c.requires.m_bound)) c.requires.points_value q v (l.invariant.2 P E q e) c.if-cell_at-eq0.all w.0.taken
-          (λ F g. w.3 ∙ w.2.ensures.1 F g),
-    ))
-    (λ w. (
-      omega arith,
-      omega (arith, ap (λ (f : Located). f.count) w.1),
-      λ P E q e. w.1 ∙ word_other P E c.args.values c.args.points c.args.j l.i _ l.all (omega (arith, c.requires.m_bound)) c.requires.points_value q v (l.invariant.2 P E q e) w.0.left,
-    ))
-    c.if-cell_at-eq0.branch
+    elim c.if-cell_at-eq0.branch [
+      then-cell_at-eq0 w ↦ (
+        omega arith,
+        omega (arith, w.with_place-next.ensures.0, ap (λ (f : Located). f.count) w.all-is),
+        λ P E q e. word_root P E c.args.values c.args.points c.args.j l.i _ l.all (omega (arith, c.requires.m_bound)) c.requires.points_value q v (l.invariant.2 P E q e) c.if-cell_at-eq0.all w.if-cell_at-eq0.true
+            (λ F g. w.all-is ∙ w.with_place-next.ensures.1 F g),
+      )
+    | else-cell_at-eq0 w ↦ (
+        omega arith,
+        omega (arith, ap (λ (f : Located). f.count) w.all-is),
+        λ P E q e. w.all-is ∙ word_other P E c.args.values c.args.points c.args.j l.i _ l.all (omega (arith, c.requires.m_bound)) c.requires.points_value q v (l.invariant.2 P E q e) w.if-cell_at-eq0.false,
+      )
+    ]
 
 pub returns : goal.returns
 returns c =
