@@ -12,9 +12,6 @@ use Rattle.listing.proofs.list.Goals as goal
 pub returns-then-input-lt5 : goal.returns-then-input-lt5
 returns-then-input-lt5 c = rw (← listed-short c.args.input.now c.if-input-lt5.true) c.write_refusal.ensures
 
-pub profile_of-p-requires : goal.profile_of-p-requires
-profile_of-p-requires c = c.if-input-lt5.false
-
 pub returns-then-not-in_range : goal.returns-then-not-in_range
 returns-then-not-in_range c =
     let e = ap in_range (sym c.profile_of-p.ensures) ∙ sym c.if-not-in_range.ensures in

@@ -1,29 +1,13 @@
 use native.Mathlib.Omega.{arith}
-use borrow.Author.Rules.{rules}
-use mathlib.Core.Path.{refl, sym, ◌∙◌}
+use mathlib.Core.Path.{sym, ◌∙◌}
 use Rattle.stand.proofs.Lists.{cells_over, cells_on, cells-end}
 use Rattle.stand.proofs.count.cells_hold.Goals as goal
-
-pub loop-i-init : goal.loop-i-init
-loop-i-init c = (omega arith, search rules, refl)
-
-pub offset_bounds-table-i : goal.offset_bounds-table-i
-offset_bounds-table-i c = omega arith
-
-pub bounds-table-i : goal.bounds-table-i
-bounds-table-i c = omega arith
 
 pub returns-then-not-row_holds : goal.returns-then-not-row_holds
 returns-then-not-row_holds c =
     let l = c.loop-i in
     let t = c.args.table in
     sym (l.invariant.2 ∙ cells_over t l.i (omega arith) (sym c.row_holds.ensures ∙ c.if-not-row_holds.true))
-
-pub overflow_add-i : goal.overflow_add-i
-overflow_add-i c = omega arith
-
-pub loop-i-smaller : goal.loop-i-smaller
-loop-i-smaller c = omega arith
 
 pub loop-i-preserved : goal.loop-i-preserved
 loop-i-preserved c =

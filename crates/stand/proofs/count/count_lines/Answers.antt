@@ -27,27 +27,6 @@ loop-i-init c =
     let a = c.args in
     (omega arith, at-most_up _ (most + 1000000 + 0 * 255) a.table.now (omega arith) c.requires.cells, ap (λ (ls : List Line). plus_lines a.rows.now ls a.table.now) (tallies-first a.count a.payload.now a.from))
 
-pub overflow_mul-place : goal.overflow_mul-place
-overflow_mul-place c = omega arith
-
-pub overflow_add-place : goal.overflow_add-place
-overflow_add-place c = omega arith
-
-pub bounds-payload-place : goal.bounds-payload-place
-bounds-payload-place c = omega arith
-
-pub overflow_add-line : goal.overflow_add-line
-overflow_add-line c = omega arith
-
-pub bounds-payload-place-in-loop-i : goal.bounds-payload-place-in-loop-i
-bounds-payload-place-in-loop-i c = omega arith
-
-pub overflow_add-line-in-loop-i : goal.overflow_add-line-in-loop-i
-overflow_add-line-in-loop-i c = omega arith
-
-pub bounds-payload-place-in-loop-i-2 : goal.bounds-payload-place-in-loop-i-2
-bounds-payload-place-in-loop-i-2 c = omega arith
-
 pub count_line-requires : goal.count_line-requires
 count_line-requires c =
     let l = c.loop-i in
@@ -55,12 +34,6 @@ count_line-requires c =
     let h = c.loop-i-test.true in
     let r = subst InRanges (line_from a.payload.now a.from l.i ∙ sym (line_is a.payload.now (a.from + l.i * 3))) (c.requires.ranges l.i h) in
     record { ranges = r; rows_fit = c.requires.rows_fit; cells = at-most_up (most + 1000000 + l.i * 255) (most + most) l.table (omega (arith, c.requires.few)) l.invariant.1 }
-
-pub overflow_add-i : goal.overflow_add-i
-overflow_add-i c = omega arith
-
-pub loop-i-smaller : goal.loop-i-smaller
-loop-i-smaller c = omega arith
 
 pub loop-i-preserved : goal.loop-i-preserved
 loop-i-preserved c =

@@ -35,6 +35,7 @@ pub count_lines-requires : goal.count_lines-requires
 count_lines-requires c =
     let l = c.loop-lines in
     let i = l.invariant in
+    -- the record that the cursor stands at, all checks of which hold
     let h = holding _ _ _ _ _ _ (sym c.in-Record.ensures) in
     let b = bounds _ _ l.c.last 0 _ _ _ h.stands in
     let z : l.c.at ≤ 4048 = omega (arith, i.2, i.3) in

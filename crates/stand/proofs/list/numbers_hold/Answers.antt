@@ -1,16 +1,10 @@
 use Prim.Native.Nat.{◌+◌}
 use native.Mathlib.Omega.{arith}
-use mathlib.Core.Path.{refl, sym, ap, ◌∙◌}
+use mathlib.Core.Path.{sym, ap, ◌∙◌}
 use Rattle.plot.proofs.Lists.{tail-part}
 use Rattle.stand.specs.Table.{among}
 use Rattle.stand.proofs.Lists.{numbers_low, numbers-high, numbers_twice, numbers_on, numbers-end}
 use Rattle.stand.proofs.list.numbers_hold.Goals as goal
-
-pub loop-i-init : goal.loop-i-init
-loop-i-init c = (omega arith, refl)
-
-pub bounds-s-i : goal.bounds-s-i
-bounds-s-i c = omega arith
 
 pub returns-then-x-lt1 : goal.returns-then-x-lt1
 returns-then-x-lt1 c = sym (c.loop-i.invariant.1 ∙ numbers_low _ _ c.loop-i-test.true c.if-x-lt1.true)
@@ -18,30 +12,12 @@ returns-then-x-lt1 c = sym (c.loop-i.invariant.1 ∙ numbers_low _ _ c.loop-i-te
 pub returns-then-x-gt99 : goal.returns-then-x-gt99
 returns-then-x-gt99 c = sym (c.loop-i.invariant.1 ∙ numbers-high _ _ c.loop-i-test.true c.if-x-lt1.false c.if-x-gt99.true)
 
-pub overflow_add-i : goal.overflow_add-i
-overflow_add-i c = omega arith
-
-pub slice_bounds-has-count : goal.slice_bounds-has-count
-slice_bounds-has-count c = omega arith
-
-pub slice_bounds-has-start : goal.slice_bounds-has-start
-slice_bounds-has-start c = omega arith
-
-pub slice_bounds-has-end : goal.slice_bounds-has-end
-slice_bounds-has-end c = omega arith
-
 pub returns-then-has : goal.returns-then-has
 returns-then-has c =
     let l = c.loop-i in
     let s = c.args.s.now in
     let a = sym (c.has.ensures ∙ ap (among _) (tail-part s (l.i + 1))) ∙ c.if-has.true in
     sym (l.invariant.1 ∙ numbers_twice _ _ c.loop-i-test.true c.if-x-lt1.false c.if-x-gt99.false a)
-
-pub overflow_add-i-in-loop-i : goal.overflow_add-i-in-loop-i
-overflow_add-i-in-loop-i c = omega arith
-
-pub loop-i-smaller : goal.loop-i-smaller
-loop-i-smaller c = omega arith
 
 pub loop-i-preserved : goal.loop-i-preserved
 loop-i-preserved c =

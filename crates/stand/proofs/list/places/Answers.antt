@@ -1,31 +1,16 @@
 use Prim.Native.Nat.{ℕ}
 use native.Mathlib.Omega.{arith}
-use mathlib.Core.Path.{refl, ap, ◌∙◌}
+use mathlib.Core.Path.{ap, ◌∙◌}
 use mathlib.Core.List.{List}
 use lib.ListN.{get_or, set, replicate}
 use Rattle.lists.proofs.Fill.{fill_more}
 use Rattle.stand.proofs.Rows.{places-short, places_full}
 use Rattle.stand.proofs.list.places.Goals as goal
 
-pub loop-i-init : goal.loop-i-init
-loop-i-init c = (omega arith, omega arith, refl)
-
 pub returns-then-species-i : goal.returns-then-species-i
 returns-then-species-i c =
     let l = c.loop-i in
     l.invariant.2 ∙ places-short _ l.i l.invariant.0 l.invariant.1 c.if-species-i.true
-
-pub bounds-species-i : goal.bounds-species-i
-bounds-species-i c = omega arith
-
-pub bounds-held-i : goal.bounds-held-i
-bounds-held-i c = omega arith
-
-pub overflow_add-i : goal.overflow_add-i
-overflow_add-i c = omega arith
-
-pub loop-i-smaller : goal.loop-i-smaller
-loop-i-smaller c = omega arith
 
 pub loop-i-preserved : goal.loop-i-preserved
 loop-i-preserved c =

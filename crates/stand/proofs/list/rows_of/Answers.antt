@@ -13,21 +13,6 @@ loop-i-init c =
     let l : length t.species ≡ 16 = search rules in
     (omega arith, c.requires, l, refl, rows_start t.species t.listed (omega (arith, c.requires)))
 
-pub overflow_sub-i : goal.overflow_sub-i
-overflow_sub-i c = omega arith
-
-pub bounds-species-i : goal.bounds-species-i
-bounds-species-i c = omega arith
-
-pub overflow_cast-rows : goal.overflow_cast-rows
-overflow_cast-rows c = omega arith
-
-pub bounds-rows-place : goal.bounds-rows-place
-bounds-rows-place c = omega arith
-
-pub loop-i-smaller : goal.loop-i-smaller
-loop-i-smaller c = omega arith
-
 pub loop-i-preserved : goal.loop-i-preserved
 loop-i-preserved c =
     let l = c.loop-i in
