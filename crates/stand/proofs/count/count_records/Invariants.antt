@@ -1,0 +1,26 @@
+-- The whole reading is the reading from the cursor on, and where it gives plots, those that are left to count are the ones from the cursor on; the measure is the
+-- bytes left. Each record has five bytes or more, and a cell grows by at most 85 a byte.
+use Prim.Native.Nat.{ℕ, ◌+◌, ◌*◌, ◌-◌, ◌≤◌}
+use mathlib.Core.Path.{◌≡◌}
+use mathlib.Core.List.{List}
+use lib.ListN.{length, drop}
+use Rattle.plot.specs.Layout.{Plot}
+use Rattle.plot.specs.Grammar.{Plots, read_from, reading}
+use Rattle.plot.specs.Answers.{checkedOf}
+use Rattle.stand.specs.Table.{most, plus_plots}
+use Rattle.stand.specs.Bounds.{AtMost}
+use Rattle.stand.proofs.count.count_records.Given as goal
+
+-- the plots that are left, where the reading gives plots
+abbrev Left : List ℕ → List ℕ → List (List ℕ) → ℕ → List (List ℕ) → ℕ → ℕ → ℕ → Type 0
+Left rows s t records u f at last =
+    (ps : List Plot) (end : ℕ) → reading s ≡ Plots ps end
+    → (qs : List Plot) × (read_from f at last (drop at s) ≡ Plots qs end) × (length ps ≡ records + length qs) × (plus_plots rows ps t ≡ plus_plots rows qs u)
+
+abbrev pub invariant-loop-lines : goal.invariant-loop-lines
+invariant-loop-lines l = (f : ℕ) × (length l.payload ≤ l.c.at + f) × (length l.payload ≤ 4048) × (l.c.at ≤ length l.payload) × (l.records ≤ l.c.at)
+    × (checkedOf 0 (reading l.payload) ≡ checkedOf l.c.last (read_from f l.c.at l.c.last (drop l.c.at l.payload)))
+    × AtMost (most + l.c.at * 85) l.table × Left l.rows l.payload l.initial.table l.records l.table f l.c.at l.c.last
+
+abbrev pub decreases-loop-lines : goal.decreases-loop-lines
+decreases-loop-lines l = length l.payload - l.c.at
