@@ -14,7 +14,7 @@ use Rattle.plot.specs.declared.Cursor.{Cursor}
 use Rattle.plot.specs.declared.LinesCheck.{LinesCheck}
 use Rattle.plot.specs.declared.Refusal.{Refusal}
 use Rattle.plot.specs.declared.Refusal.TheVariants.{PlotOrder, NoSuchPlot, Full}
-use Rattle.plot.specs.declared.Step.TheVariants.{Record, Refused}
+use Rattle.plot.specs.declared.Step.TheVariants.{Record}
 use Rattle.plot.specs.declared.Checked.TheVariants as checked-as
 use Rattle.plot.specs.declared.Located.{Located}
 use Rattle.plot.specs.declared.Located.TheVariants as located-as
