@@ -1,5 +1,5 @@
 /*
- * Film sheets for plot tallies: the C interface of the proved library (link target/staticlib/libcapi.a, made by `rt staticlib capi`).
+ * Film sheets for plot tallies: the C interface of the proved library (link crates/capi/out/libcapi.a, made by `rt lib` in crates/capi).
  * "Document 01" is the specification, "Film sheets for plot tallies, and their mending", "document 02" is "Later changes to the base".
  *
  * Units: a cell, a byte of a payload, a listed species, and the start and the length of a listed run are one uint8_t each; every length counts bytes. A

@@ -273,7 +273,7 @@ mod tests {
 
     /// The linked library as a shared object, made as docs/PERFORMANCE.md says.
     fn shared_object() -> PathBuf {
-        let archive = Path::new(env!("CARGO_MANIFEST_DIR")).join("../../target/staticlib/libcapi.a");
+        let archive = Path::new(env!("CARGO_MANIFEST_DIR")).join("../../crates/capi/out/libcapi.a");
         let file = Path::new(env!("OUT_DIR")).join("former.so");
         let compiler = std::env::var("CC").unwrap_or_else(|_| "cc".into());
         let made = Command::new(compiler)

@@ -1,4 +1,4 @@
-//! The program `lister`, as `rt check lister` leaves it: standard input comes through a pipe in small pieces, and what it writes is the second
+//! The program `lister`, as `rt ci` leaves it, or `rt run` in its folder: standard input comes through a pipe in small pieces, and what it writes is the second
 //! decoder's text. It ends with status 0 and writes nothing to standard error.
 
 use std::io::{ErrorKind, Write};
@@ -20,13 +20,13 @@ fn run(input: &[u8], piece: usize) -> Vec<u8> {
 
 /// The same for these pieces, of which there may be no end.
 fn run_pieces<'a>(pieces: impl Iterator<Item = &'a [u8]>) -> Vec<u8> {
-    let program = top().join("target/bin/lister");
+    let program = top().join("crates/lister/out/lister");
     let mut child = Command::new(&program)
         .stdin(Stdio::piped())
         .stdout(Stdio::piped())
         .stderr(Stdio::piped())
         .spawn()
-        .unwrap_or_else(|error| panic!("{}: {error} (`rt check lister` makes it)", program.display()));
+        .unwrap_or_else(|error| panic!("{}: {error} (`rt ci` makes it)", program.display()));
     let mut pipe = child.stdin.take().expect("standard input is a pipe");
     for bytes in pieces {
         match pipe.write_all(bytes) {

@@ -21,7 +21,7 @@ fn prints_what_is_stored() {
         .arg("-I")
         .arg(root.join("include"))
         .arg(root.join("examples/c/example.c"))
-        .arg(root.join("target/staticlib/libcapi.a"))
+        .arg(root.join("crates/capi/out/libcapi.a"))
         .arg("-o")
         .arg(&program));
     let stored = std::fs::read_to_string(root.join("examples/c/stdout")).expect("examples/c/stdout");
