@@ -13,7 +13,7 @@ ghost use Rattle.sheet.specs.declared.Mode.TheVariants.{Burst, Spots};
 ghost use Rattle.sheet.specs.Sheet.{write_sheet_answer, write_sheet_leaves, read_answer, read_scratch, read_payload};
 ghost use Rattle.sheet.specs.Numbers.{reading_number, reading_place, reading_changed};
 ghost use Rattle.plot.specs.Grammar.{reading};
-ghost use Rattle.plot.specs.Answers.{checked, located, added, payloadWith};
+ghost use Rattle.plot.specs.Answers.{checked, located, added, payload_with};
 ghost use Rattle.plot.specs.Numbers.{payload_number, payload_place, payload_figure, payload_index, payload_end, located_number, located_place, located_figure, located_index, located_start, located_length, added_number, added_place, added_figure, added_index, added_start};
 ghost use Rattle.listing_text.specs.Text.{listing_text, refusal_text};
 ghost use Rattle.listing_text.specs.Buffer.{text_in, text_length};
@@ -358,7 +358,7 @@ pub extern "C" fn tishwabe_add(
     ensures place_after { let a = added (record { number = plot; lines = lines.now }) payload.old in place.new ≡ value_or_place (added_number a) (added_start a) (added_place a) }
     ensures figure_after { figure.new ≡ added_figure (added (record { number = plot; lines = lines.now }) payload.old) }
     ensures line_after { line.new ≡ added_index (added (record { number = plot; lines = lines.now }) payload.old) }
-    ensures payload_after { payload.new ≡ payloadWith (record { number = plot; lines = lines.now }) payload.old }
+    ensures payload_after { payload.new ≡ payload_with (record { number = plot; lines = lines.now }) payload.old }
 {
     let answer = plot::add(payload, plot, lines);
     let number = answer.number() as usize;

@@ -2,7 +2,7 @@
 // Each function calls one entry of the crate `stand`, and its contract is that entry's answer.
 ghost use Rattle.std.specs.Prelude.{◌≡◌};
 ghost use Rattle.stand.specs.Table.{empty_table};
-ghost use Rattle.stand.specs.Answers.{tractOf, begunAnswer, addAnswer, addTable, addTract, totalAnswer, perPlotAnswer};
+ghost use Rattle.stand.specs.Answers.{tract_of, begun_answer, add_answer, add_table, add_tract, total_answer, per_plot_answer};
 ghost use Rattle.stand.specs.Numbers.{answer_number, answer_place, answer_figure, answer_index, total_number, total_trees, per_plot_number, per_plot_quotient, per_plot_remainder};
 ghost use Rattle.capi.specs.Numbers.{unless_refused};
 
@@ -16,10 +16,10 @@ pub extern "C" fn tishwabe_begin_table(
     payloads: &mut u32,
     records: &mut u32,
 ) -> usize
-    ensures value { result ≡ answer_number (begunAnswer species.now) }
-    ensures table_after { table.new ≡ unless_refused (answer_number (begunAnswer species.now)) empty_table table.old }
-    ensures payloads_after { payloads.new ≡ unless_refused (answer_number (begunAnswer species.now)) 0 payloads.old }
-    ensures records_after { records.new ≡ unless_refused (answer_number (begunAnswer species.now)) 0 records.old }
+    ensures value { result ≡ answer_number (begun_answer species.now) }
+    ensures table_after { table.new ≡ unless_refused (answer_number (begun_answer species.now)) empty_table table.old }
+    ensures payloads_after { payloads.new ≡ unless_refused (answer_number (begun_answer species.now)) 0 payloads.old }
+    ensures records_after { records.new ≡ unless_refused (answer_number (begun_answer species.now)) 0 records.old }
 {
     let begun = stand::begin(species);
     let answer = begun.answer;
@@ -45,13 +45,13 @@ pub extern "C" fn tishwabe_add_to_table(
     figure: &mut usize,
     line: &mut usize,
 ) -> usize
-    ensures value { result ≡ answer_number (addAnswer table.old (tractOf species.now payloads.old records.old) payload.now) }
-    ensures place_after { place.new ≡ answer_place (addAnswer table.old (tractOf species.now payloads.old records.old) payload.now) }
-    ensures figure_after { figure.new ≡ answer_figure (addAnswer table.old (tractOf species.now payloads.old records.old) payload.now) }
-    ensures line_after { line.new ≡ answer_index (addAnswer table.old (tractOf species.now payloads.old records.old) payload.now) }
-    ensures table_after { table.new ≡ addTable table.old (tractOf species.now payloads.old records.old) payload.now }
-    ensures payloads_after { payloads.new ≡ (addTract table.old (tractOf species.now payloads.old records.old) payload.now).payloads }
-    ensures records_after { records.new ≡ (addTract table.old (tractOf species.now payloads.old records.old) payload.now).records }
+    ensures value { result ≡ answer_number (add_answer table.old (tract_of species.now payloads.old records.old) payload.now) }
+    ensures place_after { place.new ≡ answer_place (add_answer table.old (tract_of species.now payloads.old records.old) payload.now) }
+    ensures figure_after { figure.new ≡ answer_figure (add_answer table.old (tract_of species.now payloads.old records.old) payload.now) }
+    ensures line_after { line.new ≡ answer_index (add_answer table.old (tract_of species.now payloads.old records.old) payload.now) }
+    ensures table_after { table.new ≡ add_table table.old (tract_of species.now payloads.old records.old) payload.now }
+    ensures payloads_after { payloads.new ≡ (add_tract table.old (tract_of species.now payloads.old records.old) payload.now).payloads }
+    ensures records_after { records.new ≡ (add_tract table.old (tract_of species.now payloads.old records.old) payload.now).records }
 {
     let outcome = stand::add(table, Tract::new(species, *payloads, *records), payload);
     let after = outcome.tract;
@@ -73,8 +73,8 @@ pub extern "C" fn tishwabe_table_total(
     records: u32,
     total: &mut u64,
 ) -> usize
-    ensures value { result ≡ total_number (totalAnswer table.now (tractOf species.now payloads records)) }
-    ensures total_after { total.new ≡ total_trees (totalAnswer table.now (tractOf species.now payloads records)) }
+    ensures value { result ≡ total_number (total_answer table.now (tract_of species.now payloads records)) }
+    ensures total_after { total.new ≡ total_trees (total_answer table.now (tract_of species.now payloads records)) }
 {
     let answer = stand::total(*table, Tract::new(species, payloads, records));
     *total = answer.trees();
@@ -91,9 +91,9 @@ pub extern "C" fn tishwabe_trees_per_plot(
     quotient: &mut u64,
     remainder: &mut u64,
 ) -> usize
-    ensures value { result ≡ per_plot_number (perPlotAnswer table.now (tractOf species.now payloads records)) }
-    ensures quotient_after { quotient.new ≡ per_plot_quotient (perPlotAnswer table.now (tractOf species.now payloads records)) }
-    ensures remainder_after { remainder.new ≡ per_plot_remainder (perPlotAnswer table.now (tractOf species.now payloads records)) }
+    ensures value { result ≡ per_plot_number (per_plot_answer table.now (tract_of species.now payloads records)) }
+    ensures quotient_after { quotient.new ≡ per_plot_quotient (per_plot_answer table.now (tract_of species.now payloads records)) }
+    ensures remainder_after { remainder.new ≡ per_plot_remainder (per_plot_answer table.now (tract_of species.now payloads records)) }
 {
     let answer = stand::trees_per_plot(*table, Tract::new(species, payloads, records));
     *quotient = answer.quotient();

@@ -12,7 +12,7 @@ use Rattle.plot.specs.declared.Added.{Added}
 use Rattle.plot.specs.declared.Added.TheVariants as added-as
 use Rattle.plot.specs.Layout.{Plot, no_line, lines_of, record_of}
 use Rattle.plot.specs.Grammar.{Parsed, Plots, Stopped, reading}
-use Rattle.plot.specs.Answers.{checkedOf, seek, locatedOf, located, part_of, linesFit, room_for, addedOf, added, payloadAfter}
+use Rattle.plot.specs.Answers.{checked_of, seek, located_of, located, part_of, lines_fit, room_for, added_of, added, payload_after}
 use Rattle.former.specs.Former.{Former, former_checked_of}
 use Rattle.former.specs.Former.{Part, former_seek, former_located_of, former_located, former_part_of, former_room_for, former_added_of, former_added, former_payload_after}
 use Rattle.former.specs.Unchanged.{LinesAsBefore, SteppingAsBefore, checked_as, CheckingAsBefore, located_as, AskingAsBefore, added_as, AddingAsBefore}
@@ -26,8 +26,8 @@ stepping_before at s = step_as_before at s
 
 -- ---- checking
 
-check_of : (last : ℕ) (q : Parsed) → checked_as (checkedOf last q) ≡ former_checked_of last (read q)
-unfolding checkedOf former_checked_of
+check_of : (last : ℕ) (q : Parsed) → checked_as (checked_of last q) ≡ former_checked_of last (read q)
+unfolding checked_of former_checked_of
 check_of last (Plots ps end) = refl
 check_of last (Stopped r) = refl
 
@@ -41,8 +41,8 @@ unfolding seek former_seek
 seek-same n at [] = refl
 seek-same n at (p ∷ ps) = through located_as (eqb p.number n) refl (seek-same n (at + length (record_of p)) ps)
 
-place_of : (n : ℕ) (q : Parsed) → located_as (locatedOf n q) ≡ former_located_of n (read q)
-unfolding locatedOf former_located_of
+place_of : (n : ℕ) (q : Parsed) → located_as (located_of n q) ≡ former_located_of n (read q)
+unfolding located_of former_located_of
 place_of n (Plots ps end) = seek-same n 0 ps
 place_of n (Stopped r) = refl
 
@@ -65,23 +65,23 @@ asking_before n s = record {
 room_for_same : (size end last : ℕ) (p : Plot) → added_as (room_for size end last p) ≡ former_room_for size end last p
 unfolding room_for former_room_for
 room_for_same size end last p =
-    through added_as (not (linesFit p.lines)) refl
+    through added_as (not (lines_fit p.lines)) refl
     (through added_as (eqb p.number 0) refl
     (through_equal added_as (ap not (lines_as_before (lines_of p) no_line p.lines)) refl
     (through added_as (leb p.number last) refl
     (through added_as (ltb (size - end) (length (record_of p))) refl
     refl))))
 
-room_of : (s : List ℕ) (p : Plot) (q : Parsed) → added_as (addedOf s p q) ≡ former_added_of s p (read q)
-unfolding addedOf former_added_of
+room_of : (s : List ℕ) (p : Plot) (q : Parsed) → added_as (added_of s p q) ≡ former_added_of s p (read q)
+unfolding added_of former_added_of
 room_of s p (Plots ps end) = room_for_same (length s) end _ p
 room_of s p (Stopped r) = refl
 
 room_same : (p : Plot) (s : List ℕ) → added_as (added p s) ≡ former_added p s
 room_same p s = room_of s p (reading s) ∙ ap (former_added_of s p) (reading_as_before s)
 
-room_payload : (a : Added) (p : Plot) (s : List ℕ) → payloadAfter a p s ≡ former_payload_after (added_as a) p s
-unfolding payloadAfter former_payload_after
+room_payload : (a : Added) (p : Plot) (s : List ℕ) → payload_after a p s ≡ former_payload_after (added_as a) p s
+unfolding payload_after former_payload_after
 room_payload (added-as.At start) p s = refl
 room_payload (added-as.Refused r) p s = refl
 

@@ -7,7 +7,7 @@ use Rattle.plot.specs.declared.Cursor.{Cursor}
 use Rattle.plot.specs.declared.Line.{Line}
 use Rattle.plot.specs.Layout.{Plot, mark, header_length, plot_of, count_of, record_length, line_of, no_line, within, rises, lines_of, record_of}
 use Rattle.plot.specs.Grammar.{all_zero, agree, longest}
-use Rattle.plot.specs.Answers.{lastNumber, linesFit}
+use Rattle.plot.specs.Answers.{last_number, lines_fit}
 
 -- ---- answers
 
@@ -85,7 +85,7 @@ former_reading s = pick (ltb longest (length s)) (refused 2 0) (former_read_from
 
 -- checking a payload (R2): the place after the last record with the last plot's number, or the refusal
 unfoldable pub former_checked_of : ℕ → Former PlotsRead → Former Cursor
-former_checked_of last (accepted read) = accepted (record { at = read.end; last = lastNumber last read.plots })
+former_checked_of last (accepted read) = accepted (record { at = read.end; last = last_number last read.plots })
 former_checked_of last (refused number place) = refused number place
 
 abbrev pub former_checked : List ℕ → Former Cursor
@@ -119,7 +119,7 @@ former_asked n s = former_part_of (former_located n s) s
 -- adding a plot (R4, R5): the checks after the payload's own, and the record's first byte
 unfoldable pub former_room_for : ℕ → ℕ → ℕ → Plot → Former ℕ
 former_room_for size end last p =
-    pick (not (linesFit p.lines)) (refused 7 end)
+    pick (not (lines_fit p.lines)) (refused 7 end)
     (pick (eqb p.number 0) (refused 7 end)
     (pick (not (former_lines_hold no_line (lines_of p) p.lines)) (refused 7 end)
     (pick (leb p.number last) (refused 8 end)
@@ -128,7 +128,7 @@ former_room_for size end last p =
 
 -- the payload's own refusal first (R4)
 unfoldable pub former_added_of : List ℕ → Plot → Former PlotsRead → Former ℕ
-former_added_of s p (accepted read) = former_room_for (length s) read.end (lastNumber 0 read.plots) p
+former_added_of s p (accepted read) = former_room_for (length s) read.end (last_number 0 read.plots) p
 former_added_of s p (refused number place) = refused number place
 
 abbrev pub former_added : Plot → List ℕ → Former ℕ

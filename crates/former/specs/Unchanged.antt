@@ -13,7 +13,7 @@ use Rattle.plot.specs.declared.Added.{Added}
 use Rattle.plot.specs.declared.Added.TheVariants as added-as
 use Rattle.plot.specs.Layout.{Plot, line_holds, lines_hold}
 use Rattle.plot.specs.Grammar.{step_at}
-use Rattle.plot.specs.Answers.{checked, located, asked, added, payloadWith}
+use Rattle.plot.specs.Answers.{checked, located, asked, added, payload_with}
 use Rattle.plot.specs.Numbers.{number_of, place_of}
 use Rattle.former.specs.Former.{Former, accepted, refused, former_line_holds, former_lines_hold}
 use Rattle.former.specs.Former.{Standing, Record, End, former_step_at, former_checked, Part, former_located, former_asked, former_added, former_payload_with}
@@ -58,4 +58,4 @@ pub record AskingAsBefore (n : ℕ) (s : List ℕ) : Type 0 where
 -- adding plot p: what is answered, and the payload afterwards
 pub record AddingAsBefore (p : Plot) (s : List ℕ) : Type 0 where
   pub answer : added_as (added p s) ≡ former_added p s
-  pub payload : payloadWith p s ≡ former_payload_with p s
+  pub payload : payload_with p s ≡ former_payload_with p s

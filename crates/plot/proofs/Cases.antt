@@ -21,7 +21,7 @@ use Rattle.plot.specs.declared.Checked.TheVariants as checked-as
 use Rattle.lists.specs.Choice.{pick}
 use Rattle.plot.specs.Layout.{Plot, mark, header_length, plot_of, count_of, record_length, no_line, figure_number, lines_check, lines_hold}
 use Rattle.plot.specs.Grammar.{all_zero, agree, bad_line, outside_line, head_at, step_at, Parsed, Plots, Stopped, onto, late_checked, read_step, read_from, longest, reading}
-use Rattle.plot.specs.Answers.{checkedOf}
+use Rattle.plot.specs.Answers.{checked_of}
 use Rattle.plot.proofs.Lines.{not_held, all_held}
 
 -- zeros to the end
@@ -220,16 +220,16 @@ module _ (at last : ℕ) (s : List ℕ) where
           rw (e, g, lt-leb _ _ o, z)
 
 -- the check's answer, from the reading
-pub checked_stopped : (last : ℕ) (q : Parsed) (r : Refusal) → q ≡ Stopped r → checked-as.Refused r ≡ checkedOf last q
-unfolding checkedOf
+pub checked_stopped : (last : ℕ) (q : Parsed) (r : Refusal) → q ≡ Stopped r → checked-as.Refused r ≡ checked_of last q
+unfolding checked_of
 checked_stopped last q r e = rw e
 
-pub checked-plots : (last at : ℕ) (q : Parsed) → q ≡ Plots [] at → checked-as.Accepted (record { at = at; last = last }) ≡ checkedOf last q
-unfolding checkedOf
+pub checked-plots : (last at : ℕ) (q : Parsed) → q ≡ Plots [] at → checked-as.Accepted (record { at = at; last = last }) ≡ checked_of last q
+unfolding checked_of
 checked-plots last at q e = rw e
 
-pub checked-onto : (last : ℕ) (p : Plot) (r : Parsed) → checkedOf last (onto p r) ≡ checkedOf p.number r
-unfolding checkedOf
+pub checked-onto : (last : ℕ) (p : Plot) (r : Parsed) → checked_of last (onto p r) ≡ checked_of p.number r
+unfolding checked_of
 checked-onto last p (Plots ps end) = refl
 checked-onto last p (Stopped r) = refl
 
@@ -293,8 +293,8 @@ module _ (s : List ℕ) (at last f from count : ℕ) (next : Cursor) (e : step_a
 
 -- the reading of a payload
 module _ (s : List ℕ) where
-  pub reading_long : longest < length s → checked-as.Refused WrongLength ≡ checkedOf 0 (reading s)
-  unfolding reading checkedOf
+  pub reading_long : longest < length s → checked-as.Refused WrongLength ≡ checked_of 0 (reading s)
+  unfolding reading checked_of
   reading_long h = rw (lt-ltb _ _ h)
 
   pub reading-short : length s ≤ longest → reading s ≡ read_from (length s) 0 0 s

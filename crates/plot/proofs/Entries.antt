@@ -22,7 +22,7 @@ use Rattle.plot.specs.declared.Added.TheVariants as added-as
 use Rattle.lists.proofs.Test.{pick_of}
 use Rattle.plot.specs.Layout.{Plot, record_length, no_line, figure_number, lines_check, lines_hold, lines_of, record_of, bytes_of}
 use Rattle.plot.specs.Grammar.{bad_line, outside_line, step_at, Parsed, Plots, Stopped, read_from, longest, reading}
-use Rattle.plot.specs.Answers.{lastNumber, checkedOf, checked, seek, locatedOf, located, part_of, linesFit, room_for, addedOf, added, payloadAfter, payloadWith}
+use Rattle.plot.specs.Answers.{last_number, checked_of, checked, seek, located_of, located, part_of, lines_fit, room_for, added_of, added, payload_after, payload_with}
 use Rattle.plot.specs.Numbers.{located_start}
 use Rattle.plot.proofs.Lines.{not_held}
 use Rattle.plot.proofs.Cases.{pick_out, bounds}
@@ -39,18 +39,18 @@ pub reading-lies : (s : List ℕ) (ps : List Plot) (end : ℕ) → reading s ≡
 reading-lies s ps end q = lies (length s) 0 0 s ps end (le_refl _) (reading-reads s ps end q).1
 
 -- the check tells the reading
-checked_is : (last : ℕ) (q : Parsed) (c : Cursor) → checkedOf last q ≡ checked-as.Accepted c → (ps : List Plot) × (q ≡ Plots ps c.at) × (lastNumber last ps ≡ c.last)
-unfolding checkedOf
+checked_is : (last : ℕ) (q : Parsed) (c : Cursor) → checked_of last q ≡ checked-as.Accepted c → (ps : List Plot) × (q ≡ Plots ps c.at) × (last_number last ps ≡ c.last)
+unfolding checked_of
 checked_is last (Plots ps end) c h =
-    let e : record { at = end; last = lastNumber last ps } ≡ c = cc in
+    let e : record { at = end; last = last_number last ps } ≡ c = cc in
     (ps, ap (λ (d : Cursor). Plots ps d.at) e, ap (λ (d : Cursor). d.last) e)
 checked_is last (Stopped r) c h = absurd (let z : ◌≡◌ {A = ℕ} 0 1 = cc in omega arith)
 
-pub checked_accepted : (s : List ℕ) (c : Cursor) → checked s ≡ checked-as.Accepted c → (ps : List Plot) × (reading s ≡ Plots ps c.at) × (lastNumber 0 ps ≡ c.last)
+pub checked_accepted : (s : List ℕ) (c : Cursor) → checked s ≡ checked-as.Accepted c → (ps : List Plot) × (reading s ≡ Plots ps c.at) × (last_number 0 ps ≡ c.last)
 checked_accepted s c h = checked_is 0 (reading s) c h
 
-refused_is : (last : ℕ) (q : Parsed) (r : Refusal) → checkedOf last q ≡ checked-as.Refused r → q ≡ Stopped r
-unfolding checkedOf
+refused_is : (last : ℕ) (q : Parsed) (r : Refusal) → checked_of last q ≡ checked-as.Refused r → q ≡ Stopped r
+unfolding checked_of
 refused_is last (Plots ps end) r h = absurd (let z : ◌≡◌ {A = ℕ} 0 1 = cc in omega arith)
 refused_is last (Stopped r') r h =
     let e : r' ≡ r = cc in
@@ -113,8 +113,8 @@ within-seek n at size (p ∷ ps) h =
     pick_of (Within size) (eqb p.number n) (located-as.At at (length (record_of p))) (seek n (at + length (record_of p)) ps) (omega arith)
     (within-seek n (at + length (record_of p)) size ps (omega arith))
 
-within-read : (n : ℕ) (s : List ℕ) (q : Parsed) → reading s ≡ q → Within (length s) (locatedOf n q)
-unfolding locatedOf
+within-read : (n : ℕ) (s : List ℕ) (q : Parsed) → reading s ≡ q → Within (length s) (located_of n q)
+unfolding located_of
 within-read n s (Plots ps end) e =
     let i : length (bytes_of ps) ≤ length s = (reading-lies s ps end e).fits in
     within-seek n 0 (length s) ps (omega arith)
@@ -124,11 +124,11 @@ pub located-within : (n : ℕ) (s : List ℕ) (start len : ℕ) → located n s 
 located-within n s start len e = rw e at (within-read n s (reading s) refl)
 
 pub located_stopped : (n : ℕ) (s : List ℕ) (r : Refusal) → reading s ≡ Stopped r → located-as.Refused r ≡ located n s
-unfolding locatedOf
+unfolding located_of
 located_stopped n s r e = rw e
 
 pub located-plots : (n : ℕ) (s : List ℕ) (ps : List Plot) (end : ℕ) → reading s ≡ Plots ps end → located n s ≡ seek n 0 ps
-unfolding locatedOf
+unfolding located_of
 located-plots n s ps end e = rw e
 
 -- the part that is handed out
@@ -204,17 +204,17 @@ pub record Taken (s : List ℕ) (p : Plot) (start : ℕ) : Type 0 where
   pub thirds : length p.lines % 3 ≡ 0
   pub some : p.number ≡ 0 → ⊥
   pub hold : lines_hold no_line (lines_of p) p.lines ≡ true
-  pub rise : lastNumber 0 plots < p.number
+  pub rise : last_number 0 plots < p.number
   pub space : start + length (record_of p) ≤ length s
 
 module _ (s : List ℕ) (p : Plot) (start : ℕ) where
-  at_place : (ps : List Plot) (end : ℕ) → reading s ≡ Plots ps end → room_for (length s) end (lastNumber 0 ps) p ≡ added-as.At start → Taken s p start
+  at_place : (ps : List Plot) (end : ℕ) → reading s ≡ Plots ps end → room_for (length s) end (last_number 0 ps) p ≡ added-as.At start → Taken s p start
   unfolding room_for
   at_place ps end q e =
-      let p1 = pick_out (not (linesFit p.lines)) _ _ _ e (λ z. differ _ z) in
+      let p1 = pick_out (not (lines_fit p.lines)) _ _ _ e (λ z. differ _ z) in
       let p2 = pick_out (eqb p.number 0) _ _ _ p1.1 (λ z. differ _ z) in
       let p3 = pick_out (not (lines_hold no_line (lines_of p) p.lines)) _ _ _ p2.1 (λ z. differ _ z) in
-      let p4 = pick_out (leb p.number (lastNumber 0 ps)) _ _ _ p3.1 (λ z. differ _ z) in
+      let p4 = pick_out (leb p.number (last_number 0 ps)) _ _ _ p3.1 (λ z. differ _ z) in
       let p5 = pick_out (ltb (length s - end) (length (record_of p))) _ _ _ p4.1 (λ z. differ _ z) in
       let same : added-as.At end ≡ added-as.At start = p5.1 in
       let end_is : end ≡ start = cc same in
@@ -236,8 +236,8 @@ module _ (s : List ℕ) (p : Plot) (start : ℕ) where
       differ : (r : Refusal) → added-as.Refused r ≡ added-as.At start → ⊥
       differ r z = let y : ◌≡◌ {A = ℕ} 0 1 = cc in omega arith
 
-  by_reading : (q : Parsed) → reading s ≡ q → addedOf s p q ≡ added-as.At start → Taken s p start
-  unfolding addedOf
+  by_reading : (q : Parsed) → reading s ≡ q → added_of s p q ≡ added-as.At start → Taken s p start
+  unfolding added_of
   by_reading (Plots ps end) q e = at_place ps end q e
   by_reading (Stopped r) q e = absurd (let y : ◌≡◌ {A = ℕ} 0 1 = cc in omega arith)
 
@@ -246,22 +246,22 @@ module _ (s : List ℕ) (p : Plot) (start : ℕ) where
 
   -- the record in its place
   pub put_in : (r : List ℕ) → r ≡ record_of p → added p s ≡ added-as.At start → (k : ℕ) → k ≡ 5 + length p.lines
-      → take start s ++ (r ++ drop k (drop start s)) ≡ payloadWith p s
-  unfolding payloadAfter
+      → take start s ++ (r ++ drop k (drop start s)) ≡ payload_with p s
+  unfolding payload_after
   put_in r e a k z =
       let l : k ≡ length (record_of p) = omega arith in
       rw (a, e, drop-drop k start s, l)
 
-pub left_as_was : (s : List ℕ) (p : Plot) (r : Refusal) → added p s ≡ added-as.Refused r → s ≡ payloadWith p s
-unfolding payloadAfter
+pub left_as_was : (s : List ℕ) (p : Plot) (r : Refusal) → added p s ≡ added-as.Refused r → s ≡ payload_with p s
+unfolding payload_after
 left_as_was s p r e = rw e
 
-pub added-plots : (s : List ℕ) (p : Plot) (ps : List Plot) (end last : ℕ) → reading s ≡ Plots ps end → lastNumber 0 ps ≡ last → room_for (length s) end last p ≡ added p s
-unfolding addedOf
+pub added-plots : (s : List ℕ) (p : Plot) (ps : List Plot) (end last : ℕ) → reading s ≡ Plots ps end → last_number 0 ps ≡ last → room_for (length s) end last p ≡ added p s
+unfolding added_of
 added-plots s p ps end last q e = rw (q, e)
 
 pub added_stopped : (s : List ℕ) (p : Plot) (r : Refusal) → reading s ≡ Stopped r → added-as.Refused r ≡ added p s
-unfolding addedOf
+unfolding added_of
 added_stopped s p r e = rw e
 
 pub end-within : (s : List ℕ) (ps : List Plot) (end : ℕ) → reading s ≡ Plots ps end → end ≤ length s

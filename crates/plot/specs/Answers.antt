@@ -12,17 +12,17 @@ use Rattle.plot.specs.declared.Added.{Added}
 use Rattle.plot.specs.declared.Added.TheVariants as added-as
 
 -- the number of the last plot, or `last` if there is none
-abbrev pub lastNumber : ℕ → List Plot → ℕ
-lastNumber last [] = last
-lastNumber last (p ∷ ps) = lastNumber p.number ps
+abbrev pub last_number : ℕ → List Plot → ℕ
+last_number last [] = last
+last_number last (p ∷ ps) = last_number p.number ps
 
 -- checking a payload: the place after the last record with the last plot's number, or the refusal
-unfoldable pub checkedOf : ℕ → Parsed → Checked
-checkedOf last (Plots ps end) = checked-as.Accepted (record { at = end; last = lastNumber last ps })
-checkedOf last (Stopped r) = checked-as.Refused r
+unfoldable pub checked_of : ℕ → Parsed → Checked
+checked_of last (Plots ps end) = checked-as.Accepted (record { at = end; last = last_number last ps })
+checked_of last (Stopped r) = checked-as.Refused r
 
 abbrev pub checked : List ℕ → Checked
-checked s = checkedOf 0 (reading s)
+checked s = checked_of 0 (reading s)
 
 -- where the record of plot n lies, in records that begin at `at`; "no such plot: payload accepted, plot absent (number 0 included)"
 unfoldable pub seek : ℕ → ℕ → List Plot → Located
@@ -30,12 +30,12 @@ seek n at [] = located-as.Refused NoSuchPlot
 seek n at (p ∷ ps) = pick (eqb p.number n) (located-as.At at (length (record_of p))) (seek n (at + length (record_of p)) ps)
 
 -- "a companion entry gives the number and place for the same input": first byte and length of the record, or the refusal
-unfoldable pub locatedOf : ℕ → Parsed → Located
-locatedOf n (Plots ps end) = seek n 0 ps
-locatedOf n (Stopped r) = located-as.Refused r
+unfoldable pub located_of : ℕ → Parsed → Located
+located_of n (Plots ps end) = seek n 0 ps
+located_of n (Stopped r) = located-as.Refused r
 
 abbrev pub located : ℕ → List ℕ → Located
-located n s = locatedOf n (reading s)
+located n s = located_of n (reading s)
 
 -- asking for a plot: "the record, mark to last line, as a part of the caller's payload"; "After a refusal that part is empty"
 unfoldable pub part_of : Located → List ℕ → List ℕ
@@ -46,14 +46,14 @@ abbrev pub asked : ℕ → List ℕ → List ℕ
 asked n s = part_of (located n s) s
 
 -- the lines of an added plot: "0 to 120 bytes, three a line"
-abbrev pub linesFit : List ℕ → Bool
-linesFit lines = pick (ltb 120 (length lines)) false (eqb (length lines % 3) 0)
+abbrev pub lines_fit : List ℕ → Bool
+lines_fit lines = pick (ltb 120 (length lines)) false (eqb (length lines % 3) 0)
 
 -- adding a plot to an accepted payload of `size` bytes, whose last record ends at `end` and has the number `last`: "the length of the lent lines ..,
 -- then that the plot number isn't 0, then the lines in turn, then the rise, then the space"; full "when the record needs more bytes than are left"
 unfoldable pub room_for : ℕ → ℕ → ℕ → Plot → Added
 room_for size end last p =
-    pick (not (linesFit p.lines)) (added-as.Refused (outside_line end))
+    pick (not (lines_fit p.lines)) (added-as.Refused (outside_line end))
     (pick (eqb p.number 0) (added-as.Refused (outside_line end))
     (pick (not (lines_hold no_line (lines_of p) p.lines)) (added-as.Refused (bad_line end (lines_check no_line 0 (lines_of p) p.lines)))
     (pick (leb p.number last) (added-as.Refused (PlotOrder end))
@@ -61,17 +61,17 @@ room_for size end last p =
     (added-as.At end)))))
 
 -- "Adding a plot checks the payload, then ..": its own refusal first
-unfoldable pub addedOf : List ℕ → Plot → Parsed → Added
-addedOf s p (Plots ps end) = room_for (length s) end (lastNumber 0 ps) p
-addedOf s p (Stopped r) = added-as.Refused r
+unfoldable pub added_of : List ℕ → Plot → Parsed → Added
+added_of s p (Plots ps end) = room_for (length s) end (last_number 0 ps) p
+added_of s p (Stopped r) = added-as.Refused r
 
 abbrev pub added : Plot → List ℕ → Added
-added p s = addedOf s p (reading s)
+added p s = added_of s p (reading s)
 
 -- the payload after adding: "It writes the record right after the last record .. and changes no other byte"; a refusal changes nothing
-unfoldable pub payloadAfter : Added → Plot → List ℕ → List ℕ
-payloadAfter (added-as.At start) p s = take start s ++ (record_of p ++ drop (start + length (record_of p)) s)
-payloadAfter (added-as.Refused r) p s = s
+unfoldable pub payload_after : Added → Plot → List ℕ → List ℕ
+payload_after (added-as.At start) p s = take start s ++ (record_of p ++ drop (start + length (record_of p)) s)
+payload_after (added-as.Refused r) p s = s
 
-abbrev pub payloadWith : Plot → List ℕ → List ℕ
-payloadWith p s = payloadAfter (added p s) p s
+abbrev pub payload_with : Plot → List ℕ → List ℕ
+payload_with p s = payload_after (added p s) p s

@@ -9,7 +9,7 @@ mod tally;
 
 ghost use Rattle.std.specs.Prelude.{◌≡◌, ◌+◌, ◌≤◌, drop};
 ghost use Rattle.plot.specs.Grammar.{step_at, record_at, reading, Readable};
-ghost use Rattle.plot.specs.Answers.{checked, located, asked, room_for, added, payloadWith};
+ghost use Rattle.plot.specs.Answers.{checked, located, asked, room_for, added, payload_with};
 ghost use Rattle.plot.specs.Numbers.{located_start};
 
 use record::{HEADER, all_zero, head, put_record};
@@ -300,7 +300,7 @@ fn place_for(payload: &[u8], plot: u16, lines: &[u8]) -> Added
 /// Adds a plot: writes its record right after the last record. After a refusal the payload is as it was.
 pub fn add(payload: &mut [u8], plot: u16, lines: &[u8]) -> Added
     ensures value { result ≡ added (record { number = plot; lines = lines.now }) payload.old }
-    ensures payload_after { payload.new ≡ payloadWith (record { number = plot; lines = lines.now }) payload.old }
+    ensures payload_after { payload.new ≡ payload_with (record { number = plot; lines = lines.now }) payload.old }
 {
     let answer = place_for(payload, plot, lines);
     let Added::At(start) = answer else {

@@ -21,7 +21,7 @@ use Rattle.plot.specs.Layout.{Plot, no_line, lines_check, lines_hold, lines_of, 
 use Rattle.plot.specs.Grammar.{bad_line, outside_line}
 use Rattle.plot_promises.specs.Checks.{Check, FirstFails, NoneFails, lent_checks, room_checks, add_checks}
 use Rattle.plot_promises.specs.Figures.{BadLentHere}
-use Rattle.plot.specs.Answers.{lastNumber, linesFit, room_for, added, payloadAfter, payloadWith}
+use Rattle.plot.specs.Answers.{last_number, lines_fit, room_for, added, payload_after, payload_with}
 use Rattle.plot.specs.Numbers.{payload_number, payload_place, added_number, added_place, added_start}
 use Rattle.plot_promises.specs.Canonical.{Contains}
 use Rattle.plot_promises.specs.Refusals.{AddingTo, AddingExactly}
@@ -34,7 +34,7 @@ use Rattle.plot_promises.proofs.Canonical.{contains-fits, contains_form, contain
 use Rattle.plot_promises.proofs.Checking.{checks_stopped, stopped_of}
 
 -- the length of the lent lines
-fit_iff : (lines : List ℕ) → (linesFit lines ≡ true) ↔ ((length lines ≤ 120) × (length lines % 3 ≡ 0))
+fit_iff : (lines : List ℕ) → (lines_fit lines ≡ true) ↔ ((length lines ≤ 120) × (length lines % 3 ≡ 0))
 fit_iff lines = (by_test (ltb 120 (length lines)) refl, λ h. rw (le-ltb 120 (length lines) h.0, eq-eqb (length lines % 3) 0 h.1))
   where
     by_test : (t : Bool) → ltb 120 (length lines) ≡ t → pick t false (eqb (length lines % 3) 0) ≡ true → (length lines ≤ 120) × (length lines % 3 ≡ 0)
@@ -49,7 +49,7 @@ module _ (size end last : ℕ) (p : Plot) (inside : end ≤ size) where
   -- before the lines, and after them
   abbrev lent_tests : List (Tested AddRefuses)
   lent_tests =
-      unless_true AddRefuses 7 (Refused (outside_line end)) (refuse Refused end (outside_line end) refl (refl, refl)) (linesFit p.lines) _ (fit_iff p.lines)
+      unless_true AddRefuses 7 (Refused (outside_line end)) (refuse Refused end (outside_line end) refl (refl, refl)) (lines_fit p.lines) _ (fit_iff p.lines)
       ∷ unless_zero AddRefuses 7 (Refused (outside_line end)) (refuse Refused end (outside_line end) refl (refl, refl)) p.number
       ∷ []
 
@@ -140,7 +140,7 @@ module _ (p : Plot) (s : List ℕ) (plots : List Plot) (c : Contains s plots) wh
   end = length (bytes_of plots)
 
   abbrev checks : List Check
-  checks = add_checks (length s) end (lastNumber 0 plots) p
+  checks = add_checks (length s) end (last_number 0 plots) p
 
   pub data AddedIs : Type 0 where
     refused : (k : ℕ) → FirstFails checks k → (r : Refusal) → added p s ≡ Refused r → Refuses end r k
@@ -148,12 +148,12 @@ module _ (p : Plot) (s : List ℕ) (plots : List Plot) (c : Contains s plots) wh
     accepted : NoneFails checks → added p s ≡ At end → AddedIs
 
   pub added_is : AddedIs
-  added_is = by_room (room_is (length s) end (lastNumber 0 plots) p (contains-fits s plots c))
+  added_is = by_room (room_is (length s) end (last_number 0 plots) p (contains-fits s plots c))
     where
-      same : room_for (length s) end (lastNumber 0 plots) p ≡ added p s
-      same = added-plots s p plots end (lastNumber 0 plots) (contains-reads s plots c) refl
+      same : room_for (length s) end (last_number 0 plots) p ≡ added p s
+      same = added-plots s p plots end (last_number 0 plots) (contains-reads s plots c) refl
 
-      by_room : RoomIs (length s) end (lastNumber 0 plots) p (contains-fits s plots c) → AddedIs
+      by_room : RoomIs (length s) end (last_number 0 plots) p (contains-fits s plots c) → AddedIs
       by_room (refused_by k f r e h l) = refused k f r (sym same ∙ e) h l
       by_room (taken_at f e) = accepted f (sym same ∙ e)
 
@@ -175,19 +175,19 @@ module _ (p : Plot) (s : List ℕ) (plots : List Plot) (c : Contains s plots) wh
   all_accepted start (accepted f e) a b = (ap added_number e, ap added_start e ∙ sym b)
 
   -- the payload with one plot more
-  one_more : added_number (added p s) ≡ 0 → Contains (payloadWith p s) (plots ++ p ∷ [])
+  one_more : added_number (added p s) ≡ 0 → Contains (payload_with p s) (plots ++ p ∷ [])
   one_more z =
       let e : added p s ≡ At (added_start (added p s)) = added-at (added p s) z in
       let is = contains_form s plots c in
       let m = more-plots (length s) plots p (added_start (added p s)) c.rising (contains-fits s plots c) c.short (ap (added p) (sym is) ∙ e) in
-      subst (λ (t : List ℕ). Contains t (plots ++ p ∷ [])) (sym (ap (payloadWith p) is ∙ write_one-more (length s) plots p m.0 m.1 c.short))
+      subst (λ (t : List ℕ). Contains t (plots ++ p ∷ [])) (sym (ap (payload_with p) is ∙ write_one-more (length s) plots p m.0 m.1 c.short))
       (contains_of (length s) (plots ++ p ∷ []) c.short m.0 m.1)
 
   abbrev Kept : List ℕ → Type 0
   Kept t = (length t ≡ length s) × ((i : ℕ) → (i < end) ⊎ (end + length (record_of p) ≤ i) → get_or t i 0 ≡ get_or s i 0)
 
-  kept : AddedIs → Kept (payloadWith p s)
-  unfolding payloadAfter
+  kept : AddedIs → Kept (payload_with p s)
+  unfolding payload_after
   kept (refused k f r e h l) = rw e (refl, λ i o. refl)
   kept (accepted f e) =
       let t = taken s p end e in

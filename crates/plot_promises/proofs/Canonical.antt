@@ -18,7 +18,7 @@ use Rattle.lists.specs.Bytes.{Bytes}
 use Rattle.plot.specs.Layout.{Plot, lines_of, record_of, bytes_of}
 use Rattle.plot_promises.specs.Lines.{LinesHold}
 use Rattle.plot.specs.Grammar.{Plots, longest, reading}
-use Rattle.plot.specs.Answers.{lastNumber, seek, located, part_of, asked, added, payloadAfter, payloadWith}
+use Rattle.plot.specs.Answers.{last_number, seek, located, part_of, asked, added, payload_after, payload_with}
 use Rattle.plot.specs.Numbers.{number_of, place_of, located_number, located_start, located_length, added_start}
 use Rattle.plot_promises.specs.Canonical.{RecordBytes, PlotHolds, Rising, Contains, PlotsUnique, AllAdded, NotAdded, add_then, add_all, WrittenAsRead, ReadAsWritten, AcceptedForm, FoundAt, AddedIsFound}
 use Rattle.plot.proofs.Lists.{low_byte, high_byte, part-front, part_middle}
@@ -49,11 +49,11 @@ rising-before : (last : ℕ) (ps qs : List Plot) → Rising last (ps ++ qs) → 
 rising-before last [] qs r = tt
 rising-before last (p ∷ ps) qs r = (r.0, r.1, rising-before p.number ps qs r.2)
 
-pub rising-at : (last : ℕ) (ps : List Plot) (p : Plot) (qs : List Plot) → Rising last (ps ++ p ∷ qs) → PlotHolds p × (lastNumber last ps < p.number)
+pub rising-at : (last : ℕ) (ps : List Plot) (p : Plot) (qs : List Plot) → Rising last (ps ++ p ∷ qs) → PlotHolds p × (last_number last ps < p.number)
 rising-at last [] p qs r = (r.0, r.1)
 rising-at last (x ∷ ps) p qs r = rising-at x.number ps p qs r.2
 
-rising_snoc : (last : ℕ) (ps : List Plot) (p : Plot) → Rising last ps → PlotHolds p → lastNumber last ps < p.number → Rising last (ps ++ p ∷ [])
+rising_snoc : (last : ℕ) (ps : List Plot) (p : Plot) → Rising last ps → PlotHolds p → last_number last ps < p.number → Rising last (ps ++ p ∷ [])
 rising_snoc last [] p r h l = (h, l, tt)
 rising_snoc last (x ∷ ps) p r h l = (r.0, r.1, rising_snoc x.number ps p r.2 h l)
 
@@ -100,11 +100,11 @@ module _ (size : ℕ) (ps : List Plot) (p : Plot) (r : Rising 0 (ps ++ p ∷ [])
       let h = rising-at 0 ps p [] r in
       let n : length before ≡ size = payload-length size ps less in
       let b : length (bytes_of ps) + length (record_of p) ≤ size = room in
-      sym (add-here (length before) (length (bytes_of ps)) (lastNumber 0 ps) p (short_of p h.0) (thirds_of p h.0) h.0.some ((lines_hold_iff _ _).1 h.0.hold) h.1 (omega arith)
-      ∙ added-plots before p ps (length (bytes_of ps)) (lastNumber 0 ps) reads_before refl)
+      sym (add-here (length before) (length (bytes_of ps)) (last_number 0 ps) p (short_of p h.0) (thirds_of p h.0) h.0.some ((lines_hold_iff _ _).1 h.0.hold) h.1 (omega arith)
+      ∙ added-plots before p ps (length (bytes_of ps)) (last_number 0 ps) reads_before refl)
 
-  pub write_one-more : payloadWith p before ≡ payload_of size (ps ++ p ∷ [])
-  unfolding payloadAfter
+  pub write_one-more : payload_with p before ≡ payload_of size (ps ++ p ∷ [])
+  unfolding payload_after
   write_one-more =
       let e = length (bytes_of ps) in
       let k = length (record_of p) in
@@ -124,7 +124,7 @@ write_all size ps (p ∷ qs) r f l =
     let f' : length (bytes_of (ps ++ (p ∷ []) ++ qs)) ≤ size = rw e f in
     let r'' = rising-before 0 (ps ++ p ∷ []) qs r' in
     let f'' : length (bytes_of (ps ++ p ∷ [])) ≤ size = omega (arith, f', ap length (bytes-append (ps ++ p ∷ []) qs), length-append (bytes_of (ps ++ p ∷ [])) (bytes_of qs)) in
-    ap (λ (a : Added). add_then (add_all qs) a (payloadWith p (payload_of size ps))) (add-one-more size ps p r'' f'' l)
+    ap (λ (a : Added). add_then (add_all qs) a (payload_with p (payload_of size ps))) (add-one-more size ps p r'' f'' l)
     ∙ ap (add_all qs) (write_one-more size ps p r'' f'' l)
     ∙ write_all size (ps ++ p ∷ []) qs r' f' l
     ∙ ap (λ (xs : List Plot). AllAdded (payload_of size xs)) e
@@ -176,7 +176,7 @@ more-plots size ps p start r f l e =
     let ps-is : t.plots ≡ ps = cc same in
     let start_is : start ≡ length (bytes_of ps) = cc same in
     let n : length (payload_of size ps) ≡ size = payload-length size ps f in
-    let rise : lastNumber 0 ps < p.number = rw ps-is at t.rise in
+    let rise : last_number 0 ps < p.number = rw ps-is at t.rise in
     let space : start + length (record_of p) ≤ length (payload_of size ps) = t.space in
     (rising_snoc 0 ps p r (holds_of p t.short t.thirds t.some ((lines_hold_iff _ _).0 t.hold)) rise, omega (arith, size_snoc ps p), start_is)
 
@@ -187,7 +187,7 @@ ReadsOn size qs =
     → Contains s (ps ++ qs)
 
 read_more : (size : ℕ) (p : Plot) (qs ps : List Plot) (s : List ℕ) → size ≤ longest → ReadsOn size qs → Rising 0 ps → length (bytes_of ps) ≤ size
-    → (a : Added) → added p (payload_of size ps) ≡ a → add_then (add_all qs) a (payloadWith p (payload_of size ps)) ≡ AllAdded s
+    → (a : Added) → added p (payload_of size ps) ≡ a → add_then (add_all qs) a (payload_with p (payload_of size ps)) ≡ AllAdded s
     → Contains s (ps ++ p ∷ qs)
 read_more size p qs ps s l ih r f (added-as.At start) e h =
     let m = more-plots size ps p start r f l e in
@@ -289,7 +289,7 @@ added_is_found s p b z =
     let l = (reading-reads s t.plots start t.reads).0 in
     let s-is = i.form b in
     let m = more-plots (length s) t.plots p start i.rising i.fits l (ap (added p) (sym s-is) ∙ e) in
-    let new : payloadWith p s ≡ payload_of (length s) (t.plots ++ p ∷ []) = ap (payloadWith p) s-is ∙ write_one-more (length s) t.plots p m.0 m.1 l in (
+    let new : payload_with p s ≡ payload_of (length s) (t.plots ++ p ∷ []) = ap (payload_with p) s-is ∙ write_one-more (length s) t.plots p m.0 m.1 l in (
       subst (λ (x : List ℕ). FoundAt p.number x start (record_of p)) (sym new)
           (subst (λ (k : ℕ). FoundAt p.number (payload_of (length s) (t.plots ++ p ∷ [])) k (record_of p)) (sym m.2) (found-payload (length s) t.plots p [] m.0 m.1 l)),
       (λ n h. (

@@ -16,7 +16,7 @@ use Rattle.plot.specs.declared.Checked.TheVariants as checked-as
 use Rattle.plot.specs.Layout.{Plot, bytes_of}
 use Rattle.plot_promises.specs.Checks.{RecordFault, in_zeros, in_record, record_checks}
 use Rattle.plot.specs.Grammar.{Parsed, Plots, Stopped, read_from, reading, longest}
-use Rattle.plot.specs.Answers.{lastNumber, checkedOf, checked}
+use Rattle.plot.specs.Answers.{last_number, checked_of, checked}
 use Rattle.plot.specs.Numbers.{number_of, place_of, figure_of, index_of, payload_number, payload_place, payload_end}
 use Rattle.plot_promises.specs.Refusals.{AfterPlots, RefusedAs, CheckingExactly}
 use Rattle.plot_promises.specs.Figures.{BadLineHere, BadLineAt}
@@ -30,12 +30,12 @@ use Rattle.plot_promises.proofs.Canonical.{contains-reads, reading-contains}
 
 -- what the check answers, by the reading
 module _ (s : List ℕ) where
-  pub checks-plots : (ps : List Plot) (end : ℕ) → reading s ≡ Plots ps end → checked s ≡ checked-as.Accepted (record { at = end; last = lastNumber 0 ps })
-  unfolding checkedOf
+  pub checks-plots : (ps : List Plot) (end : ℕ) → reading s ≡ Plots ps end → checked s ≡ checked-as.Accepted (record { at = end; last = last_number 0 ps })
+  unfolding checked_of
   checks-plots ps end q = rw q
 
   pub checks_stopped : (r : Refusal) → reading s ≡ Stopped r → checked s ≡ checked-as.Refused r
-  unfolding checkedOf
+  unfolding checked_of
   checks_stopped r q = rw q
 
   -- an answer of the number 0 is that of plots, any other that of a refusal
@@ -72,7 +72,7 @@ module _ (s : List ℕ) (r : Refusal) (q : reading s ≡ Stopped r) where
 
   -- what stands where it stopped
   module _ (b : Bytes s) (l : length s ≤ longest) where
-    after-plots : (Here : ℕ → List ℕ → Type 0) → let i = stops_in l in Here (lastNumber 0 i.plots) (drop (length (bytes_of i.plots)) s) → AfterPlots Here s (place_of r)
+    after-plots : (Here : ℕ → List ℕ → Type 0) → let i = stops_in l in Here (last_number 0 i.plots) (drop (length (bytes_of i.plots)) s) → AfterPlots Here s (place_of r)
     after-plots Here h =
         let i = stops_in l in
         record {

@@ -13,7 +13,7 @@ use Rattle.plot.specs.declared.Refusal.{Refusal}
 use Rattle.plot.specs.declared.Step.TheVariants.{Record, End}
 use Rattle.plot.specs.Layout.{Plot, mark, header_length, plot_of, record_length, no_line, lines_hold, lines_of, record_of, bytes_of}
 use Rattle.plot.specs.Grammar.{all_zero, agree, head_at, step_at, Parsed, Plots, Stopped, onto, read_from, longest, reading}
-use Rattle.plot.specs.Answers.{lastNumber}
+use Rattle.plot.specs.Answers.{last_number}
 use Rattle.plot_promises.specs.Canonical.{PlotHolds, Rising}
 use Rattle.plot.proofs.Cases.{head_record, read-end, read_on, reading-short}
 use Rattle.plot_promises.proofs.Lines.{lines_hold_iff}
@@ -91,7 +91,7 @@ module _ (rest : List ℕ) where
   pub record GoesOn (ps : List Plot) (f at last : ℕ) : Type 0 where
     pub steps : ℕ
     pub enough : length rest ≤ steps
-    pub reads : read_from f at last (bytes_of ps ++ rest) ≡ onto_all ps (read_from steps (at + length (bytes_of ps)) (lastNumber last ps) rest)
+    pub reads : read_from f at last (bytes_of ps ++ rest) ≡ onto_all ps (read_from steps (at + length (bytes_of ps)) (last_number last ps) rest)
 
   pub past_plots : (ps : List Plot) (f at last : ℕ) → Rising last ps → length (bytes_of ps) + length rest ≤ f → GoesOn ps f at last
   past_plots [] f at last r h =
@@ -109,7 +109,7 @@ module _ (rest : List ℕ) where
             ap (read_from f at last) (append_assoc (record_of p) (bytes_of ps) rest)
             ∙ read-written at p r.0 (bytes_of ps ++ rest) f last (omega arith) r.1
             ∙ ap (onto p) i.reads
-            ∙ ap (λ (k : ℕ). onto_all (p ∷ ps) (read_from i.steps k (lastNumber p.number ps) rest)) e;
+            ∙ ap (λ (k : ℕ). onto_all (p ∷ ps) (read_from i.steps k (last_number p.number ps) rest)) e;
       }
 
 -- a payload of plots: its length, and its reading
@@ -134,12 +134,12 @@ module _ (size : ℕ) (ps : List Plot) (fits : length (bytes_of ps) ≤ size) wh
 
 -- plots, then bytes at which the reading stops
 pub stops_past : (P : Refusal → Type 0) (ps : List Plot) (rest : List ℕ) → length (bytes_of ps ++ rest) ≤ longest → Rising 0 ps
-    → ((f : ℕ) → length rest ≤ f → (r : Refusal) × (read_from f (length (bytes_of ps)) (lastNumber 0 ps) rest ≡ Stopped r) × P r)
+    → ((f : ℕ) → length rest ≤ f → (r : Refusal) × (read_from f (length (bytes_of ps)) (last_number 0 ps) rest ≡ Stopped r) × P r)
     → (r : Refusal) × (reading (bytes_of ps ++ rest) ≡ Stopped r) × P r
 stops_past P ps rest l r x =
     let s = bytes_of ps ++ rest in
     let g = past_plots rest ps (length s) 0 0 r (omega (arith, length-append (bytes_of ps) rest)) in
     let y = x g.steps g.enough in
-    let z : read_from g.steps (0 + length (bytes_of ps)) (lastNumber 0 ps) rest ≡ Stopped y.0 =
-    ap (λ (n : ℕ). read_from g.steps n (lastNumber 0 ps) rest) (zero-add (length (bytes_of ps))) ∙ y.1 in
+    let z : read_from g.steps (0 + length (bytes_of ps)) (last_number 0 ps) rest ≡ Stopped y.0 =
+    ap (λ (n : ℕ). read_from g.steps n (last_number 0 ps) rest) (zero-add (length (bytes_of ps))) ∙ y.1 in
     (y.0, reading-short s l ∙ g.reads ∙ ap (onto_all ps) z ∙ all_stopped ps y.0, y.2)

@@ -18,7 +18,7 @@ use Rattle.lists.proofs.Bytes.{get_or_byte, drop-bytes}
 use Rattle.plot.specs.Layout.{Plot, mark, header_length, record_length, no_line, holds, lines_hold, lines_of, record_of, bytes_of}
 use Rattle.plot.specs.Grammar.{step_at, Parsed, Plots, Stopped, onto, read_from, reading}
 use Rattle.plot_promises.specs.Checks.{Zeros, RecordFault}
-use Rattle.plot.specs.Answers.{lastNumber}
+use Rattle.plot.specs.Answers.{last_number}
 use Rattle.plot.specs.Numbers.{number_of, place_of}
 use Rattle.plot_promises.specs.Canonical.{PlotHolds, Rising}
 use Rattle.plot_promises.specs.Figures.{BadLineHere}
@@ -131,7 +131,7 @@ pub record Stops (at last : ℕ) (s : List ℕ) (r : Refusal) : Type 0 where
   pub plots : List Plot
   pub fronts : Fronts last s plots
   pub begins : at + length (bytes_of plots) ≡ place_of r
-  pub fault : RecordFault (lastNumber last plots) (drop (length (bytes_of plots)) s) (number_of r)
+  pub fault : RecordFault (last_number last plots) (drop (length (bytes_of plots)) s) (number_of r)
   pub line : LineOf (BadLineHere (drop (length (bytes_of plots)) s)) r
 
 abbrev pub ReadIs : ℕ → ℕ → List ℕ → Parsed → Type 0
@@ -160,7 +160,7 @@ module _ (at last : ℕ) (s : List ℕ) (from count : ℕ) (next : Cursor) (e : 
     plots = here at last s from count next e ∷ i.plots;
     fronts = fronts-more at last s from count next e i.plots g rise i.fronts;
     begins = goes_past (place_of r) i.plots i.begins;
-    fault = subst (λ (t : List ℕ). RecordFault (lastNumber next.last i.plots) t (number_of r)) (rest-after at last s from count next e i.plots) i.fault;
+    fault = subst (λ (t : List ℕ). RecordFault (last_number next.last i.plots) t (number_of r)) (rest-after at last s from count next e i.plots) i.fault;
     line = subst (λ (t : List ℕ). LineOf (BadLineHere t) r) (rest-after at last s from count next e i.plots) i.line;
   }
 

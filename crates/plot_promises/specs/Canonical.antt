@@ -7,7 +7,7 @@ use Rattle.plot.specs.Layout.{Plot, line_of, lines_of, record_of, bytes_of}
 use Rattle.plot_promises.specs.Lines.{LinesHold}
 use Rattle.plot.specs.Grammar.{Plots, reading}
 use Rattle.plot.specs.declared.Added.{Added}
-use Rattle.plot.specs.Answers.{located, asked, added, payloadWith}
+use Rattle.plot.specs.Answers.{located, asked, added, payload_with}
 use Rattle.plot.specs.Numbers.{located_number, located_start, located_length, added_number, added_place, added_start}
 
 -- the bytes of a record in turn: "the two-byte mark 50 4C (hexadecimal)", "the plot number (two bytes, low first ..)", "the number of lines (one byte ..)", and the
@@ -51,7 +51,7 @@ add_then rest a s = pick (eqb (added_number a) 0) (rest s) (NotAdded (added_numb
 
 unfoldable pub add_all : List Plot → List ℕ → Outcome
 add_all [] s = AllAdded s
-add_all (p ∷ ps) s = add_then (add_all ps) (added p s) (payloadWith p s)
+add_all (p ∷ ps) s = add_then (add_all ps) (added p s) (payload_with p s)
 
 -- R1: the reading that the entries cite gives these plots exactly if the payload holds their records, then zeros
 abbrev pub AcceptedForm : Type 0
@@ -76,5 +76,5 @@ pub record FoundAt (n : ℕ) (s : List ℕ) (first : ℕ) (bytes : List ℕ) : T
 abbrev pub AddedIsFound : Type 0
 AddedIsFound =
     (s : List ℕ) (p : Plot) → Bytes s → added_number (added p s) ≡ 0
-    → FoundAt p.number (payloadWith p s) (added_start (added p s)) (record_of p)
-    × ((n : ℕ) → p.number ≢ n → (located n (payloadWith p s) ≡ located n s) × (asked n (payloadWith p s) ≡ asked n s))
+    → FoundAt p.number (payload_with p s) (added_start (added p s)) (record_of p)
+    × ((n : ℕ) → p.number ≢ n → (located n (payload_with p s) ≡ located n s) × (asked n (payload_with p s) ≡ asked n s))

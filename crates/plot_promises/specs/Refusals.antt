@@ -10,7 +10,7 @@ use Rattle.plot.specs.declared.Checked.TheVariants.{Accepted}
 use Rattle.plot.specs.Layout.{Plot, plot_of, count_of, record_length, record_of, bytes_of}
 use Rattle.plot.specs.Grammar.{step_at, record_at}
 use Rattle.plot_promises.specs.Checks.{Check, FirstFails, NoneFails, header_checks, record_checks, Zeros, FaultAt, RecordFault, add_checks}
-use Rattle.plot.specs.Answers.{lastNumber, checked, located, asked, added, payloadWith}
+use Rattle.plot.specs.Answers.{last_number, checked, located, asked, added, payload_with}
 use Rattle.plot.specs.Numbers.{number_of, place_of, payload_number, payload_place, payload_end, located_number, located_place, located_start, located_length, added_number, added_place, added_start}
 use Rattle.plot_promises.specs.Canonical.{Rising, Contains, FoundAt}
 
@@ -44,7 +44,7 @@ pub record AfterPlots (Here : ℕ → List ℕ → Type 0) (s : List ℕ) (place
   pub rising : Rising 0 plots
   pub form : s ≡ bytes_of plots ++ rest
   pub begins : place ≡ end_of plots
-  pub here : Here (lastNumber 0 plots) rest
+  pub here : Here (last_number 0 plots) rest
 
 -- bytes at which the check of this number is the first that fails
 abbrev pub StopsAt : List ℕ → ℕ → ℕ → Type 0
@@ -59,7 +59,7 @@ pub record CheckingExactly (s : List ℕ) : Type 0 where
   pub accepted : (end : ℕ) → ((payload_number (checked s) ≡ 0) × (payload_end (checked s) ≡ end)) ↔ ((plots : List Plot) × Contains s plots × (end ≡ end_of plots))
   pub refused : (number place : ℕ) → number ≢ 0 → ((payload_number (checked s) ≡ number) × (payload_place (checked s) ≡ place)) ↔ RefusedAs s number place
   -- the cursor after the last record, with the last plot's number, 0 if there is none
-  pub cursor : (plots : List Plot) → Contains s plots → checked s ≡ Accepted (record { at = end_of plots; last = lastNumber 0 plots })
+  pub cursor : (plots : List Plot) → Contains s plots → checked s ≡ Accepted (record { at = end_of plots; last = last_number 0 plots })
   -- E5: a value that an answer does not have is 0
   pub unset : (payload_number (checked s) ≡ 0 → payload_place (checked s) ≡ 0) × (payload_number (checked s) ≢ 0 → payload_end (checked s) ≡ 0)
 
@@ -96,13 +96,13 @@ pub record AskingExactly (n : ℕ) (s : List ℕ) : Type 0 where
 -- adding the plot p to a payload that contains these plots: "the result is the record's first byte", and "the would-be first byte" is the place of a refusal
 pub record AddingTo (p : Plot) (s : List ℕ) (plots : List Plot) : Type 0 where
   pub refused : (number place : ℕ) → number ≢ 0
-      → ((added_number (added p s) ≡ number) × (added_place (added p s) ≡ place)) ↔ (FirstFails (add_checks (length s) (end_of plots) (lastNumber 0 plots) p) number × (place ≡ end_of plots))
-  pub accepted : (start : ℕ) → ((added_number (added p s) ≡ 0) × (added_start (added p s) ≡ start)) ↔ (NoneFails (add_checks (length s) (end_of plots) (lastNumber 0 plots) p) × (start ≡ end_of plots))
+      → ((added_number (added p s) ≡ number) × (added_place (added p s) ≡ place)) ↔ (FirstFails (add_checks (length s) (end_of plots) (last_number 0 plots) p) number × (place ≡ end_of plots))
+  pub accepted : (start : ℕ) → ((added_number (added p s) ≡ 0) × (added_start (added p s) ≡ start)) ↔ (NoneFails (add_checks (length s) (end_of plots) (last_number 0 plots) p) × (start ≡ end_of plots))
   -- "It writes the record right after the last record (at byte 0 if there is none) .."
-  pub written : added_number (added p s) ≡ 0 → Contains (payloadWith p s) (plots ++ p ∷ [])
+  pub written : added_number (added p s) ≡ 0 → Contains (payload_with p s) (plots ++ p ∷ [])
   -- ".. and changes no other byte"
-  pub others : (i : ℕ) → (i < end_of plots) ⊎ (end_of plots + length (record_of p) ≤ i) → get_or (payloadWith p s) i 0 ≡ get_or s i 0
-  pub size : length (payloadWith p s) ≡ length s
+  pub others : (i : ℕ) → (i < end_of plots) ⊎ (end_of plots + length (record_of p) ≤ i) → get_or (payload_with p s) i 0 ≡ get_or s i 0
+  pub size : length (payload_with p s) ≡ length s
 
 -- adding a plot
 pub record AddingExactly (p : Plot) (s : List ℕ) : Type 0 where
@@ -111,5 +111,5 @@ pub record AddingExactly (p : Plot) (s : List ℕ) : Type 0 where
   -- then the plot
   pub plot : (plots : List Plot) → Contains s plots → AddingTo p s plots
   -- E4: "Every lent buffer is unchanged"
-  pub unchanged : added_number (added p s) ≢ 0 → payloadWith p s ≡ s
+  pub unchanged : added_number (added p s) ≢ 0 → payload_with p s ≡ s
   pub unset : (added_number (added p s) ≡ 0 → added_place (added p s) ≡ 0) × (added_number (added p s) ≢ 0 → added_start (added p s) ≡ 0)

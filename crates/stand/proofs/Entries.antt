@@ -24,7 +24,7 @@ use Rattle.stand.specs.declared.TreeTotal.{TreeTotal}
 use Rattle.stand.specs.declared.TreeTotal.TheVariants as total-as
 use Rattle.stand.specs.declared.PerPlot.TheVariants as per-plot-as
 use Rattle.stand.specs.Table.{list_of, species_hold, numbers_hold, tract_listed, rows_of, plus_plots, plots_in, limits_hold, table_total}
-use Rattle.stand.specs.Answers.{begunAnswer, payloadAnswer, judged, addAnswer, tableAfter, withRecords, tractAfter, addTable, addTract, totalAnswer, perPlotOf}
+use Rattle.stand.specs.Answers.{begun_answer, payload_answer, judged, add_answer, table_after, with_more_records, tract_after, add_table, add_tract, total_answer, per_plot_of}
 use Rattle.stand.proofs.Limits.{Within, limits_iff}
 
 -- a list of at most sixteen
@@ -41,12 +41,12 @@ pub tract_short : (tract : Tract) → tract.listed ≤ 16 → numbers_hold (list
 tract_short tract h = rw (le-ltb _ _ h)
 
 -- beginning
-pub begun-refused : (l : List ℕ) → species_hold l ≡ false → Refused SpeciesList ≡ begunAnswer l
-unfolding begunAnswer
+pub begun-refused : (l : List ℕ) → species_hold l ≡ false → Refused SpeciesList ≡ begun_answer l
+unfolding begun_answer
 begun-refused l h = rw h
 
-pub begun_accepted : (l : List ℕ) → species_hold l ≡ true → Accepted ≡ begunAnswer l
-unfolding begunAnswer
+pub begun_accepted : (l : List ℕ) → species_hold l ≡ true → Accepted ≡ begun_answer l
+unfolding begun_answer
 begun_accepted l h = rw h
 
 -- what adding answers before the payload is read, and `next` where nothing is refused
@@ -120,21 +120,21 @@ module _ (t : List (List ℕ)) (tract : Tract) (size : ℕ) where
 
 -- what adding answers
 module _ (t : List (List ℕ)) (tract : Tract) (s : List ℕ) where
-  pub add-reading : Open t tract (length s) → payloadAnswer (reading s) ≡ addAnswer t tract s
-  unfolding addAnswer
-  add-reading o = sym (o.onward (payloadAnswer (reading s)))
+  pub add-reading : Open t tract (length s) → payload_answer (reading s) ≡ add_answer t tract s
+  unfolding add_answer
+  add-reading o = sym (o.onward (payload_answer (reading s)))
 
-  pub add-plots : Open t tract (length s) → (ps : List Plot) (end : ℕ) → reading s ≡ Plots ps end → Accepted ≡ addAnswer t tract s
-  unfolding payloadAnswer
-  add-plots o ps end q = sym (ap payloadAnswer q) ∙ add-reading o
+  pub add-plots : Open t tract (length s) → (ps : List Plot) (end : ℕ) → reading s ≡ Plots ps end → Accepted ≡ add_answer t tract s
+  unfolding payload_answer
+  add-plots o ps end q = sym (ap payload_answer q) ∙ add-reading o
 
-  pub add_stopped : Open t tract (length s) → (r : Refusal) → reading s ≡ Stopped r → Refused (Payload r) ≡ addAnswer t tract s
-  unfolding payloadAnswer
-  add_stopped o r q = sym (ap payloadAnswer q) ∙ add-reading o
+  pub add_stopped : Open t tract (length s) → (r : Refusal) → reading s ≡ Stopped r → Refused (Payload r) ≡ add_answer t tract s
+  unfolding payload_answer
+  add_stopped o r q = sym (ap payload_answer q) ∙ add-reading o
 
-  pub add-refused : (r : TableRefusal) → judged t tract (length s) Accepted ≡ Refused r → addAnswer t tract s ≡ Refused r
-  unfolding addAnswer
-  add-refused r h = refused_all t tract (length s) r h (payloadAnswer (reading s))
+  pub add-refused : (r : TableRefusal) → judged t tract (length s) Accepted ≡ Refused r → add_answer t tract s ≡ Refused r
+  unfolding add_answer
+  add-refused r h = refused_all t tract (length s) r h (payload_answer (reading s))
 
   -- a payload that is added
   pub record Added : Type 0 where
@@ -145,16 +145,16 @@ module _ (t : List (List ℕ)) (tract : Tract) (s : List ℕ) where
     pub end : ℕ
     pub reads : reading s ≡ Plots plots end
 
-  payload-added : (q : Parsed) → payloadAnswer q ≡ Accepted → (ps : List Plot) × (end : ℕ) × (q ≡ Plots ps end)
-  unfolding payloadAnswer
+  payload-added : (q : Parsed) → payload_answer q ≡ Accepted → (ps : List Plot) × (end : ℕ) × (q ≡ Plots ps end)
+  unfolding payload_answer
   payload-added (Plots ps end) h = (ps, end, refl)
   payload-added (Stopped r) h = absurd (let z : ◌≡◌ {A = ℕ} 0 1 = cc in omega arith)
 
-  pub added : addAnswer t tract s ≡ Accepted → Added
-  unfolding addAnswer
+  pub added : add_answer t tract s ≡ Accepted → Added
+  unfolding add_answer
   added h =
-      let o = open_of t tract (length s) (payloadAnswer (reading s)) h in
-      let q = payload-added (reading s) (sym (o.onward (payloadAnswer (reading s))) ∙ h) in
+      let o = open_of t tract (length s) (payload_answer (reading s)) h in
+      let q = payload-added (reading s) (sym (o.onward (payload_answer (reading s))) ∙ h) in
       record {
         listed = o.listed;
         few = o.few;
@@ -165,21 +165,21 @@ module _ (t : List (List ℕ)) (tract : Tract) (s : List ℕ) where
       }
 
   -- what it leaves
-  pub left-table : (r : TableRefusal) → addAnswer t tract s ≡ Refused r → t ≡ addTable t tract s
-  unfolding tableAfter
+  pub left-table : (r : TableRefusal) → add_answer t tract s ≡ Refused r → t ≡ add_table t tract s
+  unfolding table_after
   left-table r e = rw e
 
-  pub left_tract : (r : TableRefusal) → addAnswer t tract s ≡ Refused r → tract ≡ addTract t tract s
-  unfolding tractAfter
+  pub left_tract : (r : TableRefusal) → add_answer t tract s ≡ Refused r → tract ≡ add_tract t tract s
+  unfolding tract_after
   left_tract r e = rw e
 
-  module _ (e : addAnswer t tract s ≡ Accepted) where
-    pub new-table : plus_plots (rows_of (list_of tract)) (plots_in (reading s)) t ≡ addTable t tract s
-    unfolding tableAfter
+  module _ (e : add_answer t tract s ≡ Accepted) where
+    pub new-table : plus_plots (rows_of (list_of tract)) (plots_in (reading s)) t ≡ add_table t tract s
+    unfolding table_after
     new-table = rw e
 
-    pub new_tract : withRecords tract (length (plots_in (reading s))) ≡ addTract t tract s
-    unfolding tractAfter
+    pub new_tract : with_more_records tract (length (plots_in (reading s))) ≡ add_tract t tract s
+    unfolding tract_after
     new_tract = rw e
 
 -- a list that is taken has at most sixteen species
@@ -188,30 +188,30 @@ listed_few tract h = ltb-false _ _ (pick_out (ltb 16 tract.listed) _ _ _ h (λ e
 
 -- the total
 module _ (t : List (List ℕ)) (tract : Tract) where
-  pub total_list : tract_listed tract ≡ false → total-as.Refused SpeciesList ≡ totalAnswer t tract
-  unfolding totalAnswer
+  pub total_list : tract_listed tract ≡ false → total-as.Refused SpeciesList ≡ total_answer t tract
+  unfolding total_answer
   total_list h = rw h
 
   module _ (h1 : tract_listed tract ≡ true) where
-    pub total-limits : limits_hold t tract ≡ false → total-as.Refused TractFull ≡ totalAnswer t tract
-    unfolding totalAnswer
+    pub total-limits : limits_hold t tract ≡ false → total-as.Refused TractFull ≡ total_answer t tract
+    unfolding total_answer
     total-limits h = rw (h1, h)
 
-    pub total_trees_lem : limits_hold t tract ≡ true → total-as.Trees (table_total t) ≡ totalAnswer t tract
-    unfolding totalAnswer
+    pub total_trees_lem : limits_hold t tract ≡ true → total-as.Trees (table_total t) ≡ total_answer t tract
+    unfolding total_answer
     total_trees_lem h = rw (h1, h)
 
 -- trees per plot
 module _ (records : ℕ) (a : TreeTotal) where
   module _ (trees : ℕ) (e : a ≡ total-as.Trees trees) where
-    pub per_plot-none : records ≡ 0 → per-plot-as.Refused NoPlots ≡ perPlotOf records a
-    unfolding perPlotOf
+    pub per_plot-none : records ≡ 0 → per-plot-as.Refused NoPlots ≡ per_plot_of records a
+    unfolding per_plot_of
     per_plot-none h = rw (e, eq-eqb _ _ h)
 
-    pub per_plot_some : (records ≡ 0 → ⊥) → per-plot-as.Trees (trees / records) (trees % records) ≡ perPlotOf records a
-    unfolding perPlotOf
+    pub per_plot_some : (records ≡ 0 → ⊥) → per-plot-as.Trees (trees / records) (trees % records) ≡ per_plot_of records a
+    unfolding per_plot_of
     per_plot_some h = rw (e, ne_eqb _ _ h)
 
-  pub per_plot-refused : (r : TableRefusal) → a ≡ total-as.Refused r → per-plot-as.Refused r ≡ perPlotOf records a
-  unfolding perPlotOf
+  pub per_plot-refused : (r : TableRefusal) → a ≡ total-as.Refused r → per-plot-as.Refused r ≡ per_plot_of records a
+  unfolding per_plot_of
   per_plot-refused r e = rw e

@@ -14,21 +14,21 @@ use Rattle.stand.specs.declared.PerPlot.{PerPlot}
 use Rattle.stand.specs.declared.PerPlot.TheVariants as per-plot-as
 
 -- the tract with this species list and these counters
-abbrev pub tractOf : List ℕ → ℕ → ℕ → Tract
-tractOf l payloads records = record { species = places_of l; listed = length l; payloads = payloads; records = records }
+abbrev pub tract_of : List ℕ → ℕ → ℕ → Tract
+tract_of l payloads records = record { species = places_of l; listed = length l; payloads = payloads; records = records }
 
 -- beginning: "13 species list"
-unfoldable pub begunAnswer : List ℕ → Answer
-begunAnswer l = pick (species_hold l) Accepted (Refused SpeciesList)
+unfoldable pub begun_answer : List ℕ → Answer
+begun_answer l = pick (species_hold l) Accepted (Refused SpeciesList)
 
 -- a payload's own answer
-unfoldable pub payloadAnswer : Parsed → Answer
-payloadAnswer (Plots ps end) = Accepted
-payloadAnswer (Stopped r) = Refused (Payload r)
+unfoldable pub payload_answer : Parsed → Answer
+payload_answer (Plots ps end) = Accepted
+payload_answer (Stopped r) = Refused (Payload r)
 
 -- "Payloads are added one after another, up to 1,000."
-abbrev pub mostPayloads : ℕ
-mostPayloads = 1000
+abbrev pub most_payloads : ℕ
+most_payloads = 1000
 
 -- adding a payload of this length to a state: "13 species list, after 2, ..; 14 tract full, next, for a payload beyond 1,000 or a cell or counter handed in above
 -- 400,000,000"; where none of these comes, `next`
@@ -36,44 +36,44 @@ unfoldable pub judged : List (List ℕ) → Tract → ℕ → Answer → Answer
 judged t tract size next =
     pick (ltb longest size) (Refused (Payload WrongLength))
     (pick (not (tract_listed tract)) (Refused SpeciesList)
-    (pick (leb mostPayloads tract.payloads) (Refused TractFull)
+    (pick (leb most_payloads tract.payloads) (Refused TractFull)
     (pick (not (limits_hold t tract)) (Refused TractFull)
     next)))
 
 -- and then the payload's own
-unfoldable pub addAnswer : List (List ℕ) → Tract → List ℕ → Answer
-addAnswer t tract s = judged t tract (length s) (payloadAnswer (reading s))
+unfoldable pub add_answer : List (List ℕ) → Tract → List ℕ → Answer
+add_answer t tract s = judged t tract (length s) (payload_answer (reading s))
 
 -- the table and the tract after it: "A refused payload leaves the table unchanged."
-unfoldable pub tableAfter : Answer → Tract → Parsed → List (List ℕ) → List (List ℕ)
-tableAfter Accepted tract q t = plus_plots (rows_of (list_of tract)) (plots_in q) t
-tableAfter (Refused r) tract q t = t
+unfoldable pub table_after : Answer → Tract → Parsed → List (List ℕ) → List (List ℕ)
+table_after Accepted tract q t = plus_plots (rows_of (list_of tract)) (plots_in q) t
+table_after (Refused r) tract q t = t
 
-abbrev pub withRecords : Tract → ℕ → Tract
-withRecords tract records = record { species = tract.species; listed = tract.listed; payloads = tract.payloads + 1; records = tract.records + records }
+abbrev pub with_more_records : Tract → ℕ → Tract
+with_more_records tract records = record { species = tract.species; listed = tract.listed; payloads = tract.payloads + 1; records = tract.records + records }
 
-unfoldable pub tractAfter : Answer → Parsed → Tract → Tract
-tractAfter Accepted q tract = withRecords tract (length (plots_in q))
-tractAfter (Refused r) q tract = tract
+unfoldable pub tract_after : Answer → Parsed → Tract → Tract
+tract_after Accepted q tract = with_more_records tract (length (plots_in q))
+tract_after (Refused r) q tract = tract
 
-abbrev pub addTable : List (List ℕ) → Tract → List ℕ → List (List ℕ)
-addTable t tract s = tableAfter (addAnswer t tract s) tract (reading s) t
+abbrev pub add_table : List (List ℕ) → Tract → List ℕ → List (List ℕ)
+add_table t tract s = table_after (add_answer t tract s) tract (reading s) t
 
-abbrev pub addTract : List (List ℕ) → Tract → List ℕ → Tract
-addTract t tract s = tractAfter (addAnswer t tract s) (reading s) tract
+abbrev pub add_tract : List (List ℕ) → Tract → List ℕ → Tract
+add_tract t tract s = tract_after (add_answer t tract s) (reading s) tract
 
 -- "the total, the sum of the cells"
-unfoldable pub totalAnswer : List (List ℕ) → Tract → TreeTotal
-totalAnswer t tract =
+unfoldable pub total_answer : List (List ℕ) → Tract → TreeTotal
+total_answer t tract =
     pick (not (tract_listed tract)) (total-as.Refused SpeciesList)
     (pick (not (limits_hold t tract)) (total-as.Refused TractFull)
     (total-as.Trees (table_total t)))
 
 -- "Trees per plot, the table's total over the number of records added, come as a whole quotient and the exact remainder."; "15 no plots, last, for the
 -- quotient only, when no plot was added"
-unfoldable pub perPlotOf : ℕ → TreeTotal → PerPlot
-perPlotOf records (total-as.Trees trees) = pick (eqb records 0) (per-plot-as.Refused NoPlots) (per-plot-as.Trees (trees / records) (trees % records))
-perPlotOf records (total-as.Refused r) = per-plot-as.Refused r
+unfoldable pub per_plot_of : ℕ → TreeTotal → PerPlot
+per_plot_of records (total-as.Trees trees) = pick (eqb records 0) (per-plot-as.Refused NoPlots) (per-plot-as.Trees (trees / records) (trees % records))
+per_plot_of records (total-as.Refused r) = per-plot-as.Refused r
 
-abbrev pub perPlotAnswer : List (List ℕ) → Tract → PerPlot
-perPlotAnswer t tract = perPlotOf tract.records (totalAnswer t tract)
+abbrev pub per_plot_answer : List (List ℕ) → Tract → PerPlot
+per_plot_answer t tract = per_plot_of tract.records (total_answer t tract)

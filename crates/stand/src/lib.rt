@@ -11,7 +11,7 @@ mod numbers;
 ghost use Rattle.std.specs.Prelude.{◌≡◌, ◌+◌, ◌≤◌};
 ghost use Rattle.stand.specs.declared.Answer.TheVariants.{Accepted};
 ghost use Rattle.stand.specs.Table.{empty_table, limits_hold};
-ghost use Rattle.stand.specs.Answers.{tractOf, begunAnswer, judged, withRecords, addAnswer, addTable, addTract, totalAnswer, perPlotAnswer};
+ghost use Rattle.stand.specs.Answers.{tract_of, begun_answer, judged, with_more_records, add_answer, add_table, add_tract, total_answer, per_plot_answer};
 
 use count::{cells_hold, count_records, total_of};
 use list::{list_holds, places, rows_of, species_hold};
@@ -79,7 +79,7 @@ pub fn empty() -> [[u32; 20]; 17]
 impl Tract {
     /// The tract with this species list, of any length, and these counters; a list of more than sixteen is refused by every entry.
     pub fn new(species: &[u8], payloads: u32, records: u32) -> Tract
-        ensures { result ≡ tractOf species.now payloads records }
+        ensures { result ≡ tract_of species.now payloads records }
     {
         let held = places(species);
         Tract {
@@ -93,7 +93,7 @@ impl Tract {
 
 /// Begins a table from a species list: its tract, to which nothing was added yet.
 pub fn begin(species: &[u8]) -> Outcome
-    ensures { result ≡ record { answer = begunAnswer species.now; tract = tractOf species.now 0 0 } }
+    ensures { result ≡ record { answer = begun_answer species.now; tract = tract_of species.now 0 0 } }
 {
     let begun = Tract::new(species, 0, 0);
     if !species_hold(species) {
@@ -143,7 +143,7 @@ fn judge(table: [[u32; 20]; 17], tract: Tract, size: usize) -> Answer
 // The tract after a payload with so many records.
 fn with_records(tract: Tract, records: u32) -> Tract
     requires { (tract.payloads ≤ 400000000) × (tract.records + records ≤ 500000000) }
-    ensures { result ≡ withRecords tract records }
+    ensures { result ≡ with_more_records tract records }
 {
     let species = tract.species;
     Tract {
@@ -156,8 +156,8 @@ fn with_records(tract: Tract, records: u32) -> Tract
 
 /// Adds a payload: the trees of its records go into the table. A refused payload writes nothing, and the tract is as it was.
 pub fn add(table: &mut [[u32; 20]; 17], tract: Tract, payload: &[u8]) -> Outcome
-    ensures value { result ≡ record { answer = addAnswer table.old tract payload.now; tract = addTract table.old tract payload.now } }
-    ensures table_after { table.new ≡ addTable table.old tract payload.now }
+    ensures value { result ≡ record { answer = add_answer table.old tract payload.now; tract = add_tract table.old tract payload.now } }
+    ensures table_after { table.new ≡ add_table table.old tract payload.now }
 {
     let mut counts = *table;
     let answer = judge(counts, tract, payload.len());
@@ -184,7 +184,7 @@ pub fn add(table: &mut [[u32; 20]; 17], tract: Tract, payload: &[u8]) -> Outcome
 
 /// The total: the sum of the cells.
 pub fn total(table: [[u32; 20]; 17], tract: Tract) -> TreeTotal
-    ensures { result ≡ totalAnswer table tract }
+    ensures { result ≡ total_answer table tract }
 {
     if !list_holds(tract) {
         return TreeTotal::Refused(TableRefusal::SpeciesList);
@@ -197,7 +197,7 @@ pub fn total(table: [[u32; 20]; 17], tract: Tract) -> TreeTotal
 
 /// Trees per plot: the total over the number of records added.
 pub fn trees_per_plot(table: [[u32; 20]; 17], tract: Tract) -> PerPlot
-    ensures { result ≡ perPlotAnswer table tract }
+    ensures { result ≡ per_plot_answer table tract }
 {
     match total(table, tract) {
         TreeTotal::Trees(trees) => {

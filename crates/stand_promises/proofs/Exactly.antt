@@ -13,7 +13,7 @@ use Rattle.lists.proofs.Test.{true_false, zero_or}
 use Rattle.plot.specs.declared.Refusal.TheVariants.{WrongLength}
 use Rattle.plot.specs.Layout.{Plot, bytes_of}
 use Rattle.plot.specs.Grammar.{Parsed, Plots, Stopped, longest, reading}
-use Rattle.plot.specs.Answers.{checkedOf, checked}
+use Rattle.plot.specs.Answers.{checked_of, checked}
 use Rattle.plot.specs.Numbers.{payload_number, payload_place, payload_figure, payload_index}
 use Rattle.plot_promises.specs.Checks.{Check, ◌unless◌, FirstFails, NoneFails}
 use Rattle.plot_promises.specs.Canonical.{Contains}
@@ -30,7 +30,7 @@ use Rattle.stand.specs.declared.TreeTotal.{TreeTotal}
 use Rattle.stand.specs.declared.TreeTotal.TheVariants as total-as
 use Rattle.stand.specs.declared.PerPlot.TheVariants as per-plot-as
 use Rattle.stand.specs.Table.{list_of, places_of, species_hold, tract_listed, rows_of, cell_of, plus_plots, plots_in, most, limits_hold, table_total}
-use Rattle.stand.specs.Answers.{tractOf, begunAnswer, payloadAnswer, judged, addAnswer, tractAfter, addTable, addTract, totalAnswer, perPlotAnswer}
+use Rattle.stand.specs.Answers.{tract_of, begun_answer, payload_answer, judged, add_answer, tract_after, add_table, add_tract, total_answer, per_plot_answer}
 use Rattle.stand.specs.Numbers.{refused_number, answer_number, answer_place, answer_figure, answer_index, total_number, total_trees, per_plot_number, per_plot_quotient, per_plot_remainder}
 use Rattle.stand.proofs.Limits.{limits_iff}
 use Rattle.stand.proofs.Counting.{read-plots, records_few}
@@ -51,13 +51,13 @@ places_list l h = ap (λ (x : List ℕ). take (length l) (x ++ drop (length l) (
 pub beginning_exactly : (l : List ℕ) → BeginningExactly l
 beginning_exactly l = by_test (species_hold l) refl
   where
-    listed : Listed l → (p r : ℕ) → TractListed (tractOf l p r) × (list_of (tractOf l p r) ≡ l)
+    listed : Listed l → (p r : ℕ) → TractListed (tract_of l p r) × (list_of (tract_of l p r) ≡ l)
     listed n p r = ((n.few, subst Listed (sym (places_list l n.few)) n), places_list l n.few)
 
-    other : (p r : ℕ) → (Listed l → ⊥) → TractListed (tractOf l p r) → ⊥
+    other : (p r : ℕ) → (Listed l → ⊥) → TractListed (tract_of l p r) → ⊥
     other p r d n = d (subst Listed (places_list l n.0) n.1)
 
-    answers : (a : Answer) → begunAnswer l ≡ a → (answer_place a ≡ 0) × (answer_figure a ≡ 0) × (answer_index a ≡ 0)
+    answers : (a : Answer) → begun_answer l ≡ a → (answer_place a ≡ 0) × (answer_figure a ≡ 0) × (answer_index a ≡ 0)
         → (answer_number a ≡ 0) ↔ Listed l → (answer_number a ≡ 13) ↔ (Listed l → ⊥) → BeginningExactly l
     answers a e u f g = record { accepted = rw e f; refused = rw e g; unset = rw e u; list = listed; other = other }
 
@@ -103,8 +103,8 @@ abbrev ByNumber : Answer → ℕ → Type 0
 ByNumber a k = Tells a k 0 0 0
 
 -- those of the payload's own answer
-own_answer : (q : Parsed) → Tells (payloadAnswer q) (payload_number (checkedOf 0 q)) (payload_place (checkedOf 0 q)) (payload_figure (checkedOf 0 q)) (payload_index (checkedOf 0 q))
-unfolding payloadAnswer checkedOf
+own_answer : (q : Parsed) → Tells (payload_answer q) (payload_number (checked_of 0 q)) (payload_place (checked_of 0 q)) (payload_figure (checked_of 0 q)) (payload_index (checked_of 0 q))
+unfolding payload_answer checked_of
 own_answer (Plots ps end) = (refl, refl, refl, refl)
 own_answer (Stopped r) = (refl, refl, refl, refl)
 
@@ -118,11 +118,11 @@ module _ (t : List (List ℕ)) (tract : Tract) (s : List ℕ) where
       ∷ []
 
   abbrev answer : Answer
-  answer = addAnswer t tract s
+  answer = add_answer t tract s
 
-  adding_is : ((k : ℕ) × FirstFails (adding_checks t tract s) k × ByNumber answer k) ⊎ (NoneFails (adding_checks t tract s) × (answer ≡ payloadAnswer (reading s)))
-  unfolding addAnswer judged
-  adding_is = chosen ByNumber tests (payloadAnswer (reading s))
+  adding_is : ((k : ℕ) × FirstFails (adding_checks t tract s) k × ByNumber answer k) ⊎ (NoneFails (adding_checks t tract s) × (answer ≡ payload_answer (reading s)))
+  unfolding add_answer judged
+  adding_is = chosen ByNumber tests (payload_answer (reading s))
 
   check_some : (k : ℕ) → FirstFails (adding_checks t tract s) k → k ≢ 0
   check_some k = first_of (λ (j : ℕ). j ≢ 0) (adding_checks t tract s) k ((λ e. omega arith), ((λ e. omega arith), ((λ e. omega arith), ((λ e. omega arith), tt))))
@@ -147,7 +147,7 @@ module _ (t : List (List ℕ)) (tract : Tract) (s : List ℕ) where
     ((λ z. absurd (check_some k f (sym b.0 ∙ z))), λ g. absurd (not-both (adding_checks t tract s) k f g.0)),
   )
 
-  by_payload : NoneFails (adding_checks t tract s) → answer ≡ payloadAnswer (reading s) → RefusedIff × AcceptedIff
+  by_payload : NoneFails (adding_checks t tract s) → answer ≡ payload_answer (reading s) → RefusedIff × AcceptedIff
   by_payload n e =
       let o = subst (λ (a : Answer). Tells a (payload_number (checked s)) (payload_place (checked s)) (payload_figure (checked s)) (payload_index (checked s))) (sym e) (own_answer (reading s)) in (
         (λ number place figure index z. (
@@ -171,36 +171,36 @@ module _ (t : List (List ℕ)) (tract : Tract) (s : List ℕ) where
     few : length (list_of tract) ≤ 16
     few = ((tract_iff tract).0 taken.listed).1.few
 
-    pub does : Shape t → (ps : List Plot) → Contains s ps → Does (list_of tract) t (addTable t tract s) (lines_in ps)
+    pub does : Shape t → (ps : List Plot) → Contains s ps → Does (list_of tract) t (add_table t tract s) (lines_in ps)
     does h ps c =
         subst (λ (u : List (List ℕ)). Does (list_of tract) t u (lines_in ps))
         (ap (λ (qs : List Plot). plus_plots (rows_of (list_of tract)) qs t) (sym (read-plots (reading s) ps (length (bytes_of ps)) (contains-reads s ps c))) ∙ new-table t tract s is)
         (does-plots (list_of tract) few ps 0 c.rising t h)
 
-    pub counts : (ps : List Plot) → Contains s ps → ((addTract t tract s).payloads ≡ tract.payloads + 1) × ((addTract t tract s).records ≡ tract.records + length ps)
+    pub counts : (ps : List Plot) → Contains s ps → ((add_tract t tract s).payloads ≡ tract.payloads + 1) × ((add_tract t tract s).records ≡ tract.records + length ps)
     counts ps c = (
       ap (λ (u : Tract). u.payloads) (sym (new_tract t tract s is)),
       ap (λ (u : Tract). u.records) (sym (new_tract t tract s is)) ∙ ap (λ (qs : List Plot). tract.records + length qs) (read-plots (reading s) ps (length (bytes_of ps)) (contains-reads s ps c)),
     )
 
     -- how far it grows
-    pub grows : (m : ℕ) → ((i j : ℕ) → cell_of t i j ≤ m) → (i j : ℕ) → cell_of (addTable t tract s) i j ≤ m + 344080
+    pub grows : (m : ℕ) → ((i j : ℕ) → cell_of t i j ≤ m) → (i j : ℕ) → cell_of (add_table t tract s) i j ≤ m + 344080
     grows m a =
         subst (λ (u : List (List ℕ)). (i j : ℕ) → cell_of u i j ≤ m + 344080)
         (ap (λ (qs : List Plot). plus_plots (rows_of (list_of tract)) qs t) (sym (read-plots (reading s) _ _ taken.reads)) ∙ new-table t tract s is)
         (payload-most (rows_of (list_of tract)) s taken.plots taken.end taken.reads m t a)
 
-    pub counters_grow : ((addTract t tract s).payloads ≡ tract.payloads + 1) × ((addTract t tract s).records ≤ tract.records + 1000)
+    pub counters_grow : ((add_tract t tract s).payloads ≡ tract.payloads + 1) × ((add_tract t tract s).records ≤ tract.records + 1000)
     counters_grow =
-        let e : (addTract t tract s).records ≡ tract.records + length (plots_in (reading s)) = ap (λ (u : Tract). u.records) (sym (new_tract t tract s is)) in
+        let e : (add_tract t tract s).records ≡ tract.records + length (plots_in (reading s)) = ap (λ (u : Tract). u.records) (sym (new_tract t tract s is)) in
         (ap (λ (u : Tract). u.payloads) (sym (new_tract t tract s is)), omega (arith, e, records_few s _ _ taken.reads))
 
-    shaped : Shape t → Shape (addTable t tract s)
+    shaped : Shape t → Shape (add_table t tract s)
     shaped h =
         subst Shape (ap (λ (qs : List Plot). plus_plots (rows_of (list_of tract)) qs t) (sym (read-plots (reading s) _ _ taken.reads)) ∙ new-table t tract s is)
         (does-plots (list_of tract) few taken.plots 0 (reading-sound s _ _ taken.reads).rising t h).shape
 
-    fit : ((i j : ℕ) → cell_of (addTable t tract s) i j < 4294967296) × ((addTract t tract s).payloads < 4294967296) × ((addTract t tract s).records < 4294967296)
+    fit : ((i j : ℕ) → cell_of (add_table t tract s) i j < 4294967296) × ((add_tract t tract s).payloads < 4294967296) × ((add_tract t tract s).records < 4294967296)
     fit =
         let w = taken.within in (
           (λ i j. omega (arith, grows most w.cells i j)),
@@ -208,13 +208,13 @@ module _ (t : List (List ℕ)) (tract : Tract) (s : List ℕ) where
           omega (arith, counters_grow.1, w.records),
         )
 
-  pub unchanged : answer_number answer ≢ 0 → (addTable t tract s ≡ t) × (addTract t tract s ≡ tract)
+  pub unchanged : answer_number answer ≢ 0 → (add_table t tract s ≡ t) × (add_tract t tract s ≡ tract)
   unchanged d =
       let r = refused_of answer d in
       (sym (left-table t tract s r.0 r.1), sym (left_tract t tract s r.0 r.1))
 
-  list_kept : (a : Answer) (q : Parsed) → ((tractAfter a q tract).species ≡ tract.species) × ((tractAfter a q tract).listed ≡ tract.listed)
-  unfolding tractAfter
+  list_kept : (a : Answer) (q : Parsed) → ((tract_after a q tract).species ≡ tract.species) × ((tract_after a q tract).listed ≡ tract.listed)
+  unfolding tract_after
   list_kept Accepted q = (refl, refl)
   list_kept (Refused r) q = (refl, refl)
 
@@ -261,10 +261,10 @@ module _ (t : List (List ℕ)) (tract : Tract) where
       ∷ []
 
   abbrev sum : TreeTotal
-  sum = totalAnswer t tract
+  sum = total_answer t tract
 
   total_is : ((k : ℕ) × FirstFails (state_checks t tract) k × TotalBy sum k) ⊎ (NoneFails (state_checks t tract) × (sum ≡ total-as.Trees (table_total t)))
-  unfolding totalAnswer
+  unfolding total_answer
   total_is = chosen TotalBy total_tests (total-as.Trees (table_total t))
 
   total_some : (k : ℕ) → FirstFails (state_checks t tract) k → k ≢ 0
@@ -294,8 +294,8 @@ module _ (t : List (List ℕ)) (tract : Tract) where
   last = (15 unless (tract.records ≢ 0)) ∷ []
 
   pub data PerPlotIs : Type 0 where
-    none : (k : ℕ) → FirstFails (per_plot_checks t tract) k → (r : TableRefusal) → perPlotAnswer t tract ≡ per-plot-as.Refused r → refused_number r ≡ k → PerPlotIs
-    some : NoneFails (per_plot_checks t tract) → perPlotAnswer t tract ≡ per-plot-as.Trees (table_total t / tract.records) (table_total t % tract.records) → PerPlotIs
+    none : (k : ℕ) → FirstFails (per_plot_checks t tract) k → (r : TableRefusal) → per_plot_answer t tract ≡ per-plot-as.Refused r → refused_number r ≡ k → PerPlotIs
+    some : NoneFails (per_plot_checks t tract) → per_plot_answer t tract ≡ per-plot-as.Trees (table_total t / tract.records) (table_total t % tract.records) → PerPlotIs
 
   per_plot_is : PerPlotIs
   per_plot_is =
@@ -319,7 +319,7 @@ module _ (t : List (List ℕ)) (tract : Tract) where
     where
       by_case : PerPlotIs → PerPlotExactly t tract
       by_case (none k f r e q) =
-          let x = exactly (per_plot_checks t tract) (per_plot_number (perPlotAnswer t tract)) check_known (inl (k, f, ap per_plot_number e ∙ q)) in
+          let x = exactly (per_plot_checks t tract) (per_plot_number (per_plot_answer t tract)) check_known (inl (k, f, ap per_plot_number e ∙ q)) in
           record {
             refused = x.0;
             accepted = x.1;
@@ -327,7 +327,7 @@ module _ (t : List (List ℕ)) (tract : Tract) where
             unset = λ d. (ap per_plot_quotient e, ap per_plot_remainder e);
           }
       by_case (some n e) =
-          let x = exactly (per_plot_checks t tract) (per_plot_number (perPlotAnswer t tract)) check_known (inr (n, ap per_plot_number e)) in
+          let x = exactly (per_plot_checks t tract) (per_plot_number (per_plot_answer t tract)) check_known (inr (n, ap per_plot_number e)) in
           let sum_is : total_trees sum ≡ table_total t = total_exactly.sum (total_exactly.accepted.1 (n.0, (n.1.0, tt))) in
           let positive : 0 < tract.records = ⊎_elim (λ z. absurd (records_some n z)) (λ d. omega arith) (zero_or tract.records) in
           record {

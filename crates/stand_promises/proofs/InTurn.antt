@@ -23,7 +23,7 @@ use Rattle.plot_promises.proofs.Checks.{not-both, first-after, all_after}
 use Rattle.plot_promises.proofs.Checking.{plots_of}
 use Rattle.stand.specs.declared.Tract.{Tract}
 use Rattle.stand.specs.Table.{list_of, empty_table, cell_of, row_total, table_total}
-use Rattle.stand.specs.Answers.{totalAnswer, perPlotAnswer}
+use Rattle.stand.specs.Answers.{total_answer, per_plot_answer}
 use Rattle.stand.specs.Numbers.{total_number, total_trees, per_plot_number, per_plot_quotient, per_plot_remainder}
 use Rattle.stand_promises.specs.Species.{Listed, TractListed}
 use Rattle.stand_promises.specs.Trees.{lines_in, trees_where, all_trees}
@@ -227,7 +227,7 @@ module _ (l : List ℕ) (n : Listed l) (ss : List (List ℕ)) (b : AllBytes ss) 
   abbrev last : List Check
   last = (15 unless (end.tract.records ≢ 0)) ∷ []
 
-  total-zero : total_number (totalAnswer end.table end.tract) ≡ 0
+  total-zero : total_number (total_answer end.table end.tract) ≡ 0
   total-zero = (total_exactly end.table end.tract).accepted.1 checks_hold
 
   module _ (pss : List (List Plot)) (c : AllContain (accepted_of (begun l) ss) pss) where
@@ -237,29 +237,29 @@ module _ (l : List ℕ) (n : Listed l) (ss : List (List ℕ)) (b : AllBytes ss) 
     counted : Does l empty_table end.table (lines_in plots)
     counted = (all.counted pss c).0
 
-    total_is : total_trees (totalAnswer end.table end.tract) ≡ all_trees plots
+    total_is : total_trees (total_answer end.table end.tract) ≡ all_trees plots
     total_is = omega (arith, (total_exactly end.table end.tract).sum total-zero, counted.total, empty_total)
 
     record_count : end.tract.records ≡ length plots
     record_count = omega (arith, (all.counted pss c).1)
 
-    no_plots : (per_plot_number (perPlotAnswer end.table end.tract) ≡ 15) ↔ (length plots ≡ 0)
+    no_plots : (per_plot_number (per_plot_answer end.table end.tract) ≡ 15) ↔ (length plots ≡ 0)
     no_plots =
         let i = (per_plot_exactly end.table end.tract).refused 15 (λ e. omega arith) in (
           (λ e. ⊎_elim (λ z. z) (λ d. absurd (not-both (per_plot_checks end.table end.tract) 15 (i.0 e) (all_after (state_checks end.table end.tract) last checks_hold ((λ z. d (sym record_count ∙ z)), tt)))) (zero_or (length plots))),
           λ z. i.1 (first-after (state_checks end.table end.tract) last 15 checks_hold (inl ((λ d. d (record_count ∙ z)), refl))),
         )
 
-    per_plot : length plots ≢ 0 → (per_plot_number (perPlotAnswer end.table end.tract) ≡ 0)
-        × (per_plot_quotient (perPlotAnswer end.table end.tract) * length plots + per_plot_remainder (perPlotAnswer end.table end.tract) ≡ all_trees plots)
-        × (per_plot_remainder (perPlotAnswer end.table end.tract) < length plots)
+    per_plot : length plots ≢ 0 → (per_plot_number (per_plot_answer end.table end.tract) ≡ 0)
+        × (per_plot_quotient (per_plot_answer end.table end.tract) * length plots + per_plot_remainder (per_plot_answer end.table end.tract) ≡ all_trees plots)
+        × (per_plot_remainder (per_plot_answer end.table end.tract) < length plots)
     per_plot d =
         let p = per_plot_exactly end.table end.tract in
         let z = p.accepted.1 (all_after (state_checks end.table end.tract) last checks_hold ((λ e. d (sym record_count ∙ e)), tt)) in
         let x = p.exact z in (
           z,
-          subst (λ (k : ℕ). per_plot_quotient (perPlotAnswer end.table end.tract) * k + per_plot_remainder (perPlotAnswer end.table end.tract) ≡ all_trees plots) record_count (x.0 ∙ total_is),
-          subst (λ (k : ℕ). per_plot_remainder (perPlotAnswer end.table end.tract) < k) record_count x.1,
+          subst (λ (k : ℕ). per_plot_quotient (per_plot_answer end.table end.tract) * k + per_plot_remainder (per_plot_answer end.table end.tract) ≡ all_trees plots) record_count (x.0 ∙ total_is),
+          subst (λ (k : ℕ). per_plot_remainder (per_plot_answer end.table end.tract) < k) record_count x.1,
         )
 
     holds : Holds l end (length (accepted_of (begun l) ss)) plots

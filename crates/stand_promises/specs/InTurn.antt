@@ -10,7 +10,7 @@ use Rattle.plot.specs.Numbers.{payload_number}
 use Rattle.plot_promises.specs.Canonical.{Contains}
 use Rattle.stand.specs.declared.Tract.{Tract}
 use Rattle.stand.specs.Table.{empty_table, cell_of}
-use Rattle.stand.specs.Answers.{tractOf, addAnswer, addTable, addTract, totalAnswer, perPlotAnswer}
+use Rattle.stand.specs.Answers.{tract_of, add_answer, add_table, add_tract, total_answer, per_plot_answer}
 use Rattle.stand.specs.Numbers.{answer_number, total_number, total_trees, per_plot_number, per_plot_quotient, per_plot_remainder}
 use Rattle.stand_promises.specs.Species.{Listed}
 use Rattle.stand_promises.specs.Trees.{trees_at, all_trees}
@@ -23,14 +23,14 @@ pub record State : Type 0 where
 
 -- "a table begun empty" from a species list
 abbrev pub begun : List ℕ → State
-begun l = record { table = empty_table; tract = tractOf l 0 0 }
+begun l = record { table = empty_table; tract = tract_of l 0 0 }
 
 -- what adding a payload answers by number, and leaves
 abbrev pub number_at : State → List ℕ → ℕ
-number_at st s = answer_number (addAnswer st.table st.tract s)
+number_at st s = answer_number (add_answer st.table st.tract s)
 
 abbrev pub after : State → List ℕ → State
-after st s = record { table = addTable st.table st.tract s; tract = addTract st.table st.tract s }
+after st s = record { table = add_table st.table st.tract s; tract = add_tract st.table st.tract s }
 
 -- "Payloads are added one after another": the state after all of them, and those that are accepted when their turn comes
 unfoldable pub after_all : State → List (List ℕ) → State
@@ -62,14 +62,14 @@ pub record Holds (l : List ℕ) (st : State) (payloads : ℕ) (plots : List Plot
   -- "each cell must equal its trees in all added tallies, counted from the records, .."
   pub cells : (i j : ℕ) → i < 17 → j < 20 → cell_of st.table i j ≡ trees_at l i j plots
   -- ".. and the total, the sum of the cells, all of them": TotalExactly says that it is the sum of the cells
-  pub total : (total_number (totalAnswer st.table st.tract) ≡ 0) × (total_trees (totalAnswer st.table st.tract) ≡ all_trees plots)
+  pub total : (total_number (total_answer st.table st.tract) ≡ 0) × (total_trees (total_answer st.table st.tract) ≡ all_trees plots)
   pub payload_count : st.tract.payloads ≡ payloads
   pub record_count : st.tract.records ≡ length plots
   -- "the table's total over the number of records added": with no record 15, else exact
-  pub no_plots : (per_plot_number (perPlotAnswer st.table st.tract) ≡ 15) ↔ (length plots ≡ 0)
-  pub per_plot : length plots ≢ 0 → (per_plot_number (perPlotAnswer st.table st.tract) ≡ 0)
-      × (per_plot_quotient (perPlotAnswer st.table st.tract) * length plots + per_plot_remainder (perPlotAnswer st.table st.tract) ≡ all_trees plots)
-      × (per_plot_remainder (perPlotAnswer st.table st.tract) < length plots)
+  pub no_plots : (per_plot_number (per_plot_answer st.table st.tract) ≡ 15) ↔ (length plots ≡ 0)
+  pub per_plot : length plots ≢ 0 → (per_plot_number (per_plot_answer st.table st.tract) ≡ 0)
+      × (per_plot_quotient (per_plot_answer st.table st.tract) * length plots + per_plot_remainder (per_plot_answer st.table st.tract) ≡ all_trees plots)
+      × (per_plot_remainder (per_plot_answer st.table st.tract) < length plots)
 
 -- the payloads `payloads` added in turn to the table begun from the list l
 pub record AddedInTurn (l : List ℕ) (payloads : List (List ℕ)) : Type 0 where

@@ -10,17 +10,17 @@ use Rattle.block.proofs.write.Goals as goal
 
 pub returns-then-not-in_range : goal.returns-then-not-in_range
 returns-then-not-in_range c =
-     let whole = write_one _ _ _ (sym c.in_range.ensures ∙ c.if-not-in_range.true) in
+    let whole = write_one _ _ _ (sym c.in_range.ensures ∙ c.if-not-in_range.true) in
     record { value = whole.0; cells_after = whole.1 }
 
 pub returns-then-message-message_length : goal.returns-then-message-message_length
 returns-then-message-message_length c =
-     let whole = write_two _ _ _ (sym c.in_range.ensures ∙ c.if-not-in_range.false) (message_wrong _ _ _ (λ e. c.if-message-message_length.true (e ∙ sym c.message_length.ensures))) in
+    let whole = write_two _ _ _ (sym c.in_range.ensures ∙ c.if-not-in_range.false) (message_wrong _ _ _ (λ e. c.if-message-message_length.true (e ∙ sym c.message_length.ensures))) in
     record { value = whole.0; cells_after = whole.1 }
 
 pub returns-then-cells-p : goal.returns-then-cells-p
 returns-then-cells-p c =
-     let whole = write_two _ _ _ (sym c.in_range.ensures ∙ c.if-not-in_range.false)
+    let whole = write_two _ _ _ (sym c.in_range.ensures ∙ c.if-not-in_range.false)
     (block_wrong _ _ _ (c.if-message-message_length.false ∙ c.message_length.ensures) c.if-cells-p.true) in
     record { value = whole.0; cells_after = whole.1 }
 

@@ -13,17 +13,17 @@ use Rattle.candidates.proofs.list.Goals as goal
 
 pub returns-then-not-in_range : goal.returns-then-not-in_range
 returns-then-not-in_range c =
-     let whole = list_one _ _ _ (sym c.in_range.ensures ∙ c.if-not-in_range.true) in
+    let whole = list_one _ _ _ (sym c.in_range.ensures ∙ c.if-not-in_range.true) in
     record { value = whole.0; pairs_after = whole.1 }
 
 pub returns-then-read-p : goal.returns-then-read-p
 returns-then-read-p c =
-     let whole = list_two _ _ _ (sym c.in_range.ensures ∙ c.if-not-in_range.false) (read_wrong _ _ _ c.if-read-p.true) in
+    let whole = list_two _ _ _ (sym c.in_range.ensures ∙ c.if-not-in_range.false) (read_wrong _ _ _ c.if-read-p.true) in
     record { value = whole.0; pairs_after = whole.1 }
 
 pub returns-then-pairs-p : goal.returns-then-pairs-p
 returns-then-pairs-p c =
-     let whole = list_two _ _ _ (sym c.in_range.ensures ∙ c.if-not-in_range.false)
+    let whole = list_two _ _ _ (sym c.in_range.ensures ∙ c.if-not-in_range.false)
     (pairs_wrong _ _ _ c.if-read-p.false c.if-pairs-p.true) in
     record { value = whole.0; pairs_after = whole.1 }
 

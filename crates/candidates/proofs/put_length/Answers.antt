@@ -42,12 +42,12 @@ loop-s-preserved c =
     let m = c.loop-s-test.true in (
       omega (arith, m),
       elim c.if-lengths-s.branch [
-        then-lengths-s w ↦
-          let found = writing-found (length_at c.args.lengths) c.args.size c.args.k c.args.pairs.now c.args.n c.requires.n_in_bounds l.s l.count l.pairs m l.invariant.1 w.put.new.pairs w.if-lengths-s.true w.put.ensures in
-          record { counted = w.count-is ∙ found.counted; written = w.pairs-is ∙ found.written }
-      | else-lengths-s w ↦
-          let other = writing_other (length_at c.args.lengths) c.args.size c.args.k c.args.pairs.now c.args.n c.requires.n_in_bounds l.s l.count l.pairs m l.invariant.1 w.if-lengths-s.false in
-          record { counted = w.count-is ∙ other.counted; written = w.pairs-is ∙ other.written }
+        | then-lengths-s w ↦
+            let found = writing-found (length_at c.args.lengths) c.args.size c.args.k c.args.pairs.now c.args.n c.requires.n_in_bounds l.s l.count l.pairs m l.invariant.1 w.put.new.pairs w.if-lengths-s.true w.put.ensures in
+            record { counted = w.count-is ∙ found.counted; written = w.pairs-is ∙ found.written }
+        | else-lengths-s w ↦
+            let other = writing_other (length_at c.args.lengths) c.args.size c.args.k c.args.pairs.now c.args.n c.requires.n_in_bounds l.s l.count l.pairs m l.invariant.1 w.if-lengths-s.false in
+            record { counted = w.count-is ∙ other.counted; written = w.pairs-is ∙ other.written }
       ],
     )
 

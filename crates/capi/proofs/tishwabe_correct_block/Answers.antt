@@ -7,6 +7,6 @@ use Rattle.capi.proofs.tishwabe_correct_block.Goals as goal
 
 pub returns : goal.returns
 returns c =
-    let g = c.args in let p = c.profile_of.ensures in let w = c.correct-answer.ensures in  let whole = corrector_of (λ (q : Profile). correct_answer q g.read.now g.out.now) (λ (q : Profile). correct_leaves q g.read.now g.out.now) verdict_start verdict_length _ _ _ _ _ _ _ p
+    let g = c.args in let p = c.profile_of.ensures in let w = c.correct-answer.ensures in let whole = corrector_of (λ (q : Profile). correct_answer q g.read.now g.out.now) (λ (q : Profile). correct_leaves q g.read.now g.out.now) verdict_start verdict_length _ _ _ _ _ _ _ p
     w.value w.out_after c.number.ensures c.start.ensures c.length.ensures in
     record { value = whole.0; start_after = whole.1.0; length_after = whole.1.1.0; out_after = whole.1.1.1 }

@@ -7,6 +7,6 @@ use Rattle.capi.proofs.tishwabe_correct_spots.Goals as goal
 
 pub returns : goal.returns
 returns c =
-    let g = c.args in let p = c.profile_of.ensures in let w = c.correct-answer.ensures in  let whole = corrector_of (λ (q : Profile). spot_answer q g.read.now g.out.now) (λ (q : Profile). spot_leaves q g.read.now g.out.now) verdict_count verdict_lowest _ _ _ _ _ _ _ p
+    let g = c.args in let p = c.profile_of.ensures in let w = c.correct-answer.ensures in let whole = corrector_of (λ (q : Profile). spot_answer q g.read.now g.out.now) (λ (q : Profile). spot_leaves q g.read.now g.out.now) verdict_count verdict_lowest _ _ _ _ _ _ _ p
     w.value w.out_after c.number.ensures c.count.ensures c.lowest.ensures in
     record { value = whole.0; count_after = whole.1.0; lowest_after = whole.1.1.0; out_after = whole.1.1.1 }

@@ -33,13 +33,13 @@ loop-i-preserved c =
     let l = c.loop-i in
     let v = c.cell_at.ensures in
     elim c.if-cell_at-eq0.branch [
-      then-cell_at-eq0 w ↦ (
+      | then-cell_at-eq0 w ↦ (
         omega arith,
         omega (arith, w.with_place-next.ensures.0, ap (λ (f : Located). f.count) w.all-is),
         λ P E q e. word_root P E c.args.values c.args.points c.args.j l.i _ l.all (omega (arith, c.requires.m_bound)) c.requires.points_value q v (l.invariant.2 P E q e) c.if-cell_at-eq0.all w.if-cell_at-eq0.true
             (λ F g. w.all-is ∙ w.with_place-next.ensures.1 F g),
       )
-    | else-cell_at-eq0 w ↦ (
+      | else-cell_at-eq0 w ↦ (
         omega arith,
         omega (arith, ap (λ (f : Located). f.count) w.all-is),
         λ P E q e. w.all-is ∙ word_other P E c.args.values c.args.points c.args.j l.i _ l.all (omega (arith, c.requires.m_bound)) c.requires.points_value q v (l.invariant.2 P E q e) w.if-cell_at-eq0.false,

@@ -3,7 +3,7 @@ use native.Mathlib.Omega.{arith}
 use mathlib.Core.Path.{◌≡◌, refl, sym, ap, ◌∙◌}
 use lib.ListN.{length, drop, length-drop}
 use Rattle.plot.specs.Layout.{figure_number}
-use Rattle.plot.specs.Answers.{checkedOf}
+use Rattle.plot.specs.Answers.{checked_of}
 use Rattle.plot.proofs.Cases.{read-end, read-refused, bounds, turn_lines, turn_order, turn_on, checked-onto, checked_stopped, checked-plots, reading_long, reading-short}
 use Rattle.plot.proofs.Lines.{lines_end, lines-not, lines_on, first-lines}
 use Rattle.plot.proofs.check.Goals as goal
@@ -14,7 +14,7 @@ returns-then-payload-gt-LONGEST c = reading_long _ c.if-payload-gt-LONGEST.true
 pub records-init : goal.records-init
 records-init c =
     let s = c.args.payload.now in
-    (length s, omega arith, omega arith, ap (checkedOf 0) (reading-short s c.if-payload-gt-LONGEST.false))
+    (length s, omega arith, omega arith, ap (checked_of 0) (reading-short s c.if-payload-gt-LONGEST.false))
 
 pub loop-i-init : goal.loop-i-init
 loop-i-init c = (omega arith, first-lines c.in-Record.count c.in-Record.lines c.args.payload.now)
@@ -53,7 +53,7 @@ records-preserved c =
       o.invariant.0 - 1,
       omega (arith, bounds _ _ 0 0 _ _ _ step_is),
       omega (arith, bounds _ _ 0 0 _ _ _ step_is),
-      o.invariant.3 ∙ ap (checkedOf o.c.last) (turn_on _ _ _ _ _ _ _ step_is o.invariant.1 _ g refl c.if-next-c.false) ∙ checked-onto _ _ _,
+      o.invariant.3 ∙ ap (checked_of o.c.last) (turn_on _ _ _ _ _ _ _ step_is o.invariant.1 _ g refl c.if-next-c.false) ∙ checked-onto _ _ _,
     )
 
 pub returns-then-figure-ne0 : goal.returns-then-figure-ne0

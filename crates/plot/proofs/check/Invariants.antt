@@ -5,7 +5,7 @@ use mathlib.Core.Path.{◌≡◌}
 use lib.ListN.{length, drop}
 use Rattle.plot.specs.Layout.{no_line, lines_check}
 use Rattle.plot.specs.Grammar.{read_from, reading}
-use Rattle.plot.specs.Answers.{checkedOf}
+use Rattle.plot.specs.Answers.{checked_of}
 use Rattle.plot.proofs.check.Given as goal
 
 abbrev pub invariant-loop-i : goal.invariant-loop-i
@@ -19,7 +19,7 @@ decreases-loop-i l = l.count - l.i
 abbrev pub invariant-records : goal.invariant-records
 invariant-records l =
     (f : ℕ) × (length l.payload ≤ l.c.at + f) × (l.c.at ≤ length l.payload)
-    × (checkedOf 0 (reading l.payload) ≡ checkedOf l.c.last (read_from f l.c.at l.c.last (drop l.c.at l.payload)))
+    × (checked_of 0 (reading l.payload) ≡ checked_of l.c.last (read_from f l.c.at l.c.last (drop l.c.at l.payload)))
 
 abbrev pub decreases-records : goal.decreases-records
 decreases-records l = length l.payload - l.c.at

@@ -13,7 +13,7 @@ use Rattle.sheet.proofs.read_in.Goals as goal
 
 pub returns-then-not-in_range : goal.returns-then-not-in_range
 returns-then-not-in_range c =
-     let whole = read_bad _ _ _ _ _ (sym c.in_range.ensures ∙ c.if-not-in_range.true) in
+    let whole = read_bad _ _ _ _ _ (sym c.in_range.ensures ∙ c.if-not-in_range.true) in
     record { value = whole.0; scratch_after = whole.1.0; payload_after = whole.1.1 }
 
 pub read_fits-requires : goal.read_fits-requires
@@ -24,7 +24,7 @@ read_fits-requires c =
 
 pub returns-then-not-read_fits : goal.returns-then-not-read_fits
 returns-then-not-read_fits c =
-    let ranged : in_range c.args.p ≡ true = sym c.in_range.ensures ∙ c.if-not-in_range.false in  let whole = read_wrong _ _ _ _ _ (ranged) (sym c.read_fits.ensures ∙ c.if-not-read_fits.true) in
+    let ranged : in_range c.args.p ≡ true = sym c.in_range.ensures ∙ c.if-not-in_range.false in let whole = read_wrong _ _ _ _ _ (ranged) (sym c.read_fits.ensures ∙ c.if-not-read_fits.true) in
     record { value = whole.0; scratch_after = whole.1.0; payload_after = whole.1.1 }
 
 pub slice_bounds-word-end : goal.slice_bounds-word-end

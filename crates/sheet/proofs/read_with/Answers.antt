@@ -11,14 +11,17 @@ returns-then-not-is_accepted c =
 pub write_messages-requires : goal.write_messages-requires
 write_messages-requires c =
     let b = c.judge_blocks-answer in let yes = sym c.is_accepted.ensures ∙ c.if-not-is_accepted.false in
-    record { in_range = c.requires.in_range; sheet_len = (
+    record {
+      in_range = c.requires.in_range;
+      sheet_len = (
         c.requires.sheet_len.0,
         b.auto.scratch ∙ c.requires.sheet_len.1,
         b.auto.word ∙ c.requires.sheet_len.2,
         c.requires.sheet_len.3,
         record { start_count = b.auto.starts; size_count = b.auto.sizes; error_count = b.auto.errors },
         b.ensures.found yes,
-      ) }
+      );
+    }
 
 pub returns : goal.returns
 returns c =

@@ -10,7 +10,7 @@ use Rattle.sheet.proofs.write.Goals as goal
 
 pub returns-then-not-in_range : goal.returns-then-not-in_range
 returns-then-not-in_range c =
-     let whole = write_bad _ _ _ (sym c.in_range.ensures ∙ c.if-not-in_range.true) in
+    let whole = write_bad _ _ _ (sym c.in_range.ensures ∙ c.if-not-in_range.true) in
     record { value = whole.0; sheet_after = whole.1 }
 
 pub write_fits-requires : goal.write_fits-requires
@@ -20,7 +20,7 @@ write_fits-requires c =
 
 pub returns-then-not-write_fits : goal.returns-then-not-write_fits
 returns-then-not-write_fits c =
-    let ranged : in_range c.args.p ≡ true = sym c.in_range.ensures ∙ c.if-not-in_range.false in  let whole = write_wrong _ _ _ (ranged) (sym c.write_fits.ensures ∙ c.if-not-write_fits.true) in
+    let ranged : in_range c.args.p ≡ true = sym c.in_range.ensures ∙ c.if-not-in_range.false in let whole = write_wrong _ _ _ (ranged) (sym c.write_fits.ensures ∙ c.if-not-write_fits.true) in
     record { value = whole.0; sheet_after = whole.1 }
 
 pub write_blocks-requires : goal.write_blocks-requires
@@ -30,5 +30,5 @@ write_blocks-requires c =
 
 pub returns : goal.returns
 returns c =
-    let ranged : in_range c.args.p ≡ true = sym c.in_range.ensures ∙ c.if-not-in_range.false in let fitting : let a = c.args in write_sheet_fits a.p (length a.payload.now) (length a.sheet.now) ≡ true = sym c.write_fits.ensures ∙ c.if-not-write_fits.false in  let whole = write_done _ _ _ (ranged) (fitting) _ c.write_blocks.ensures in
+    let ranged : in_range c.args.p ≡ true = sym c.in_range.ensures ∙ c.if-not-in_range.false in let fitting : let a = c.args in write_sheet_fits a.p (length a.payload.now) (length a.sheet.now) ≡ true = sym c.write_fits.ensures ∙ c.if-not-write_fits.false in let whole = write_done _ _ _ (ranged) (fitting) _ c.write_blocks.ensures in
     record { value = whole.0; sheet_after = whole.1 }

@@ -15,8 +15,12 @@ slice_bounds-correct_located-end c = sym (length-take-le _ _ (omega (arith, c.re
 
 pub correct_located-requires : goal.correct_located-requires
 correct_located-requires c =
-    record { in_range = c.requires.in_range; read_len = c.requires.read_len; syndromes_value = syndromes_of c.args.p c.requires.in_range c.args.read.now c.requires.read_len.0 (bytes_of c.args.read.now (λ i. omega (arith, c.shared_slice_known-1.given i))) _ _ _ c.requires.rest_value
-            (ap (take c.args.p.r) c.low_cells-low.ensures) c.syndromes-syndromes.ensures }
+    record {
+      in_range = c.requires.in_range;
+      read_len = c.requires.read_len;
+      syndromes_value = syndromes_of c.args.p c.requires.in_range c.args.read.now c.requires.read_len.0 (bytes_of c.args.read.now (λ i. omega (arith, c.shared_slice_known-1.given i))) _ _ _ c.requires.rest_value
+          (ap (take c.args.p.r) c.low_cells-low.ensures) c.syndromes-syndromes.ensures;
+    }
 
 pub returns : goal.returns
 returns c = c.correct_located.ensures

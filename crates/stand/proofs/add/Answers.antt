@@ -12,7 +12,7 @@ use Rattle.stand.specs.declared.Answer.TheVariants.{Accepted}
 use Rattle.stand.specs.declared.Outcome.{Outcome}
 use Rattle.stand.specs.Table.{list_of, plus_plots, plots_in}
 use Rattle.stand.specs.Bounds.{RowsFit}
-use Rattle.stand.specs.Answers.{withRecords}
+use Rattle.stand.specs.Answers.{with_more_records}
 use Rattle.stand.proofs.Rows.{rows_fit}
 use Rattle.stand.proofs.Counting.{records_few}
 use Rattle.stand.proofs.Entries.{open_of, add-plots, add_stopped, add-refused, left-table, left_tract, new-table, new_tract, listed_few}
@@ -62,7 +62,7 @@ returns-in-Accepted-checked c =
     let k = q.all_counted (p.0, _, p.1) in
     let e = add-plots a.table.now a.tract a.payload.now (open_of _ _ _ Accepted (sym c.in-Accepted.ensures)) _ _ p.1 in
     record {
-      value = outcome (c.in-Accepted.is ∙ e) (c.with_records.ensures ∙ ap (withRecords a.tract) k.0 ∙ new_tract a.table.now a.tract a.payload.now (sym e));
+      value = outcome (c.in-Accepted.is ∙ e) (c.with_records.ensures ∙ ap (with_more_records a.tract) k.0 ∙ new_tract a.table.now a.tract a.payload.now (sym e));
       table_after = k.1 ∙ ap (λ (rows : List ℕ). plus_plots rows (plots_in (reading a.payload.now)) a.table.now) c.rows_of-rows.ensures ∙ new-table a.table.now a.tract a.payload.now (sym e);
     }
 

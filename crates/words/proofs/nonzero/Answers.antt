@@ -5,7 +5,6 @@ use Prim.Native.Nat.{ℕ, zero, suc}
 use Rattle.code.specs.Code.{nonzero}
 use Rattle.words.proofs.nonzero.Goals as goal
 
-
 some : (c : ℕ) → c ≢ 0 → 1 ≡ nonzero c
 some zero n = absurd (n refl)
 some (suc c) n = refl

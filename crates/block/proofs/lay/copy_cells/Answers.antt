@@ -23,8 +23,7 @@ loop-i-smaller c = omega arith
 
 pub loop-i-preserved : goal.loop-i-preserved
 loop-i-preserved c =
-    let l = c.loop-i in
-    (
+    let l = c.loop-i in (
       omega arith,
       simp length-set l.invariant.1,
       ap (λ (p : List ℕ). set p l.i (get_or c.args.from.now l.i 0)) l.invariant.2 ∙ fill_more l.i c.args.from.now c.args.to.now 0 (omega arith) (omega (arith, c.requires)),

@@ -5,7 +5,7 @@ use mathlib.Core.List.{List}
 use lib.ListN.{length, drop, length-drop}
 use Rattle.plot.specs.Layout.{Plot, tallies}
 use Rattle.plot.specs.Grammar.{read_from}
-use Rattle.plot.specs.Answers.{checkedOf}
+use Rattle.plot.specs.Answers.{checked_of}
 use Rattle.plot.proofs.Cases.{bounds, read-end, reading-short, checked_stopped, checked-plots, checked-onto}
 use Rattle.plot.proofs.Records.{holding, ends, stops, holding-reads}
 use Rattle.plot.proofs.Accepts.{not_stopped}
@@ -26,7 +26,7 @@ loop-lines-init c =
       h.short,
       omega arith,
       omega arith,
-      ap (checkedOf 0) (reading-short s h.short),
+      ap (checked_of 0) (reading-short s h.short),
       at-most_up most (most + 0 * 85) a.table.now (omega arith) h.cells,
       (λ ps end q. (ps, (reading-reads s ps end q).1, omega arith, refl)),
     )
@@ -75,7 +75,7 @@ loop-lines-preserved c =
       i.2,
       b.inside,
       omega (arith, i.4),
-      i.5 ∙ ap (checkedOf l.c.last) r.2 ∙ checked-onto l.c.last r.0 rest ∙ ap (λ (n : ℕ). checkedOf n rest) r.1,
+      i.5 ∙ ap (checked_of l.c.last) r.2 ∙ checked-onto l.c.last r.0 rest ∙ ap (λ (n : ℕ). checked_of n rest) r.1,
       subst (AtMost (most + next.at * 85)) (sym t) (at-most_up (most + l.c.at * 85 + count * 255) (most + next.at * 85) (plus_lines a.rows.now (tallies count (drop from a.payload.now)) l.table) (omega arith) m),
       (λ ps end q.
           let o = i.7 ps end q in

@@ -6,7 +6,7 @@ use mathlib.Core.List.{List}
 use lib.ListN.{length, drop}
 use Rattle.plot.specs.Layout.{Plot}
 use Rattle.plot.specs.Grammar.{Plots, read_from, reading}
-use Rattle.plot.specs.Answers.{checkedOf}
+use Rattle.plot.specs.Answers.{checked_of}
 use Rattle.stand.specs.Table.{most, plus_plots}
 use Rattle.stand.specs.Bounds.{AtMost}
 use Rattle.stand.proofs.count.count_records.Given as goal
@@ -19,7 +19,7 @@ Left rows s t records u f at last =
 
 abbrev pub invariant-loop-lines : goal.invariant-loop-lines
 invariant-loop-lines l = (f : ℕ) × (length l.payload ≤ l.c.at + f) × (length l.payload ≤ 4048) × (l.c.at ≤ length l.payload) × (l.records ≤ l.c.at)
-    × (checkedOf 0 (reading l.payload) ≡ checkedOf l.c.last (read_from f l.c.at l.c.last (drop l.c.at l.payload)))
+    × (checked_of 0 (reading l.payload) ≡ checked_of l.c.last (read_from f l.c.at l.c.last (drop l.c.at l.payload)))
     × AtMost (most + l.c.at * 85) l.table × Left l.rows l.payload l.initial.table l.records l.table f l.c.at l.c.last
 
 abbrev pub decreases-loop-lines : goal.decreases-loop-lines
