@@ -1,6 +1,6 @@
 -- What a fill's test means: a codeword lies within the run exactly where the test says so, and it is the one that is written. The run of an accepted look
 -- passes the test, and its codeword is the one that correcting writes.
-use mathlib.Core.Path.{◌≡◌, refl, sym, ap, ◌∙◌}
+use mathlib.Core.Path.{◌≡◌, refl, sym, ap}
 use mathlib.Core.Bool.{true}
 use mathlib.Core.List.{List}
 use Prim.Native.Nat.{ℕ, ◌+◌, ◌≤◌, ◌<◌}

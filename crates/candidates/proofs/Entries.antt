@@ -1,10 +1,9 @@
 -- The cases of the entry, over plain values: refusal 1, refusal 2, a block that is a codeword, and the list by the lengths for the starts.
-use mathlib.Core.Path.{◌≡◌, refl, sym, ap, ap₂, ◌∙◌}
+use mathlib.Core.Path.{◌≡◌, sym, ap, ◌∙◌}
 use mathlib.Core.Bool.{true, false}
 use mathlib.Core.List.{List, [], ◌∷◌}
 use Prim.Native.Nat.{ℕ, ◌*◌, ◌<◌}
 use lib.ListN.{length, get_or}
-use Rattle.lists.specs.Choice.{pick}
 use Rattle.code.specs.Code.{generator, remainder}
 use Rattle.profile.specs.Profile.{in_range}
 use Rattle.profile.specs.declared.Profile.{Profile}

@@ -1,24 +1,24 @@
 -- What stands in the list of a block, in its order: exactly the tight runs of codewords. An entry of the buffer is an entry of the list.
-use mathlib.Core.Path.{◌≡◌, refl, sym, ap, ap₂, ◌∙◌, subst}
-use mathlib.Core.Logic.{◌↔◌, ◌≢◌, ◌⊎◌, inl, inr, ⊎_elim}
+use mathlib.Core.Path.{◌≡◌, sym, ap, ap₂, ◌∙◌, subst}
+use mathlib.Core.Logic.{◌≢◌, ⊎_elim}
 use mathlib.Core.Bool.{true, false}
-use mathlib.Core.List.{List, [], ◌∷◌, ◌++◌}
+use mathlib.Core.List.{List}
 use Prim.Native.Nat.{ℕ, zero, suc, ◌+◌, ◌*◌, ◌≤◌, ◌<◌}
 use native.Mathlib.Omega.{arith}
 use lib.ListN.{length, get_or}
-use Rattle.lists.proofs.Test.{lt-or_ge, zero_or, true_or_false, true_false}
+use Rattle.lists.proofs.Test.{zero_or, true_or_false}
 use Rattle.profile.specs.Profile.{InRange}
 use Rattle.profile.proofs.Ranges.{in_range_lem}
 use Rattle.block.specs.Block.{is_clean}
 use Rattle.block.specs.Runs.{Cells}
 use Rattle.profile.specs.declared.Profile.{Profile}
 use Rattle.block.proofs.Shortest.{word}
-use Rattle.candidates.specs.Candidates.{Run, candidates, pair_bytes, laid_behind, list_answer, list_leaves}
+use Rattle.candidates.specs.Candidates.{Run, candidates, laid_behind, list_answer, list_leaves}
 use Rattle.candidates.specs.Numbers.{listed_count}
 use Rattle.candidates.specs.declared.ListAnswer.TheVariants.{Done}
 use Rattle.candidates.specs.Promises.{TightRun, LentList, Entry, list_count}
 use Rattle.candidates.proofs.Laying.{pair_at}
-use Rattle.candidates.proofs.Lists.{none, Stands, Ordered, Before, length_most, up_to_each, up_to_has, up_to_ordered}
+use Rattle.candidates.proofs.Lists.{none, Stands, Ordered, length_most, up_to_each, up_to_has, up_to_ordered}
 use Rattle.candidates.proofs.Entries.{list_done, list_fits_lem, listed_clean, listed_wrong}
 use Rattle.candidates.proofs.Tight.{t, kept_of, kept_tight, tight_length_of, none_clean, clean_none, clean_tight}
 

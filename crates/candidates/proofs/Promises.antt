@@ -1,16 +1,15 @@
 -- The promises on the tester's list. What stands in it are the tight runs, in order; the rest follows over runs and codewords, and no search is named.
 use mathlib.Core.Path.{◌≡◌, refl, sym, ap, ◌∙◌, subst}
-use mathlib.Core.Logic.{◌↔◌, ◌≢◌, ◌⊎◌, inl, inr, ⊎_elim}
+use mathlib.Core.Logic.{◌↔◌, ◌≢◌, ◌⊎◌, ⊎_elim}
 use mathlib.Core.List.{List}
 use Prim.Native.Nat.{ℕ, ◌+◌, ◌*◌, ◌≤◌, ◌<◌}
 use native.Mathlib.Omega.{arith}
-use lib.ListN.{length, get_or}
+use lib.ListN.{get_or}
 use Rattle.lists.proofs.Test.{lt-or_ge, zero_or}
 use Rattle.profile.specs.Profile.{InRange}
 use Rattle.block.specs.Block.{look_answer}
-use Rattle.block.specs.Numbers.{verdict_number, verdict_start, verdict_length}
-use Rattle.block.specs.Runs.{Cells, Reached, Least, NoneReached, TwoReached, OneReached, SparseRepair, OneSparse}
-use Rattle.block.specs.LookAndFill.{Fills}
+use Rattle.block.specs.Numbers.{verdict_start, verdict_length}
+use Rattle.block.specs.Runs.{Reached, Least, NoneReached, TwoReached, OneReached}
 use Rattle.profile.specs.declared.Profile.{Profile}
 use Rattle.block.proofs.Verdicts.{exactly_one}
 use Rattle.block.proofs.LookAndFill.{look_iff, filled_iff}

@@ -2,9 +2,9 @@
 -- remains is tight. So the run from s is tight exactly if the lowest cell is not zero and the extent is its length, and a codeword has one tight run only, since that run goes
 -- from the first to the last cell that it changes.
 use mathlib.Core.Path.{◌≡◌, refl, sym, ap, ◌∙◌, subst}
-use mathlib.Core.Logic.{◌↔◌, ◌≢◌, ◌⊎◌, inl, inr, ⊎_elim}
+use mathlib.Core.Logic.{◌≢◌, inl, inr, ⊎_elim}
 use mathlib.Core.Bool.{Bool, true, false}
-use mathlib.Core.List.{List, [], ◌∷◌, ◌++◌}
+use mathlib.Core.List.{List, ◌++◌}
 use Prim.Native.Nat.{ℕ, zero, suc, ◌+◌, ◌-◌, ◌≤◌, ◌<◌}
 use native.Mathlib.Nat.{le_of_suc-le-suc, eq-or-lt_of_le}
 use native.Mathlib.Omega.{arith}
@@ -16,8 +16,7 @@ use Rattle.lists.specs.Choice.{pick}
 use Rattle.lists.proofs.Test.{lt-or_ge, zero_or, true_or_false, true_false}
 use Rattle.field.specs.Field.{add}
 use Rattle.field.proofs.Sum.{add_self, add_cancel, add_zero_r}
-use Rattle.code.specs.Code.{generator}
-use Rattle.code.specs.Run.{Outside, added_at, shifted_remainder}
+use Rattle.code.specs.Run.{added_at, shifted_remainder}
 use Rattle.code.specs.Search.{extent}
 use Rattle.code.proofs.Poly.{get_or_padd}
 use Rattle.profile.specs.Profile.{InRange}

@@ -1,6 +1,6 @@
 -- In spot mode two profiles that differ in L alone read every sheet alike: each block's verdict and codeword read n, r and b only, and all else is made
 -- of these, of the depth, and of k.
-use mathlib.Core.Path.{◌≡◌, refl, sym, ap, ◌∙◌}
+use mathlib.Core.Path.{◌≡◌, refl, ap, ◌∙◌}
 use mathlib.Core.Bool.{Bool}
 use mathlib.Core.List.{List}
 use Prim.Native.Nat.{ℕ, zero, suc, ◌+◌}

@@ -1,6 +1,6 @@
 -- `candidates::list` meets its contract: each return is a case of the definitions, and the lengths for the starts are those of the block's remainder.
 use mathlib.Core.Path.{◌≡◌, sym, ap, ◌∙◌}
-use mathlib.Core.Bool.{true, false}
+use mathlib.Core.Bool.{true}
 use Prim.Native.Nat.{ℕ}
 use native.Mathlib.Omega.{arith}
 use Rattle.profile.specs.Profile.{in_range}

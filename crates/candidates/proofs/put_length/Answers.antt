@@ -1,7 +1,5 @@
 use mathlib.Core.Path.{◌≡◌, ◌∙◌}
-use Prim.Native.Nat.{◌-◌}
 use native.Mathlib.Omega.{arith}
-use mathlib.Core.Logic.{⊎_elim}
 use Rattle.candidates.specs.Lengths.{length_at}
 use Rattle.candidates.proofs.Written.{Writing, writing-none, writing_room, writing-length, writing-found, writing_other}
 use Rattle.candidates.proofs.put_length.Goals as goal

@@ -1,5 +1,4 @@
 use mathlib.Core.Path.{◌≡◌}
-use Prim.Native.Nat.{◌-◌}
 use native.Mathlib.Omega.{arith}
 use Rattle.candidates.specs.Lengths.{length_at}
 use Rattle.candidates.proofs.Written.{Wrote, wrote_none, wrote-length, wrote_room, wrote-next}

@@ -1,5 +1,4 @@
 use mathlib.Core.Path.{refl, sym, ◌∙◌}
-use Prim.Native.Nat.{◌-◌}
 use native.Mathlib.Omega.{arith}
 use Rattle.erasure.proofs.Laying.{word_next, word_end}
 use Rattle.erasure.proofs.add_values.Goals as goal

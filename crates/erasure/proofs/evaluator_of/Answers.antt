@@ -1,4 +1,3 @@
-use Prim.Native.Nat.{◌-◌}
 use native.Mathlib.Omega.{arith}
 use Rattle.register.proofs.Cells.{cells-length}
 use Rattle.erasure.proofs.Registers.{evaluator-start, evaluator-more, evaluator-end}

@@ -1,5 +1,4 @@
 use mathlib.Core.Path.{refl, ◌∙◌}
-use Prim.Native.Nat.{◌-◌}
 use native.Mathlib.Omega.{arith}
 use Rattle.erasure.specs.Filling.{quotient_at}
 use Rattle.erasure.proofs.Laying.{lay_more, lay_end}

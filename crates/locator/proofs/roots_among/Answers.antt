@@ -1,4 +1,3 @@
-use Prim.Native.Nat.{◌-◌}
 use native.Mathlib.Omega.{arith}
 use Rattle.products.proofs.Values.{points-more}
 use Rattle.locator.proofs.Places.{all_none, all_more, all_in}

@@ -1,6 +1,6 @@
 -- The invariant: the register is what the cells from i on make of it. The first of the rows stands for the generator.
 use mathlib.Core.Path.{◌≡◌}
-use Prim.Native.Nat.{◌≤◌, ◌-◌}
+use Prim.Native.Nat.{◌≤◌}
 use lib.ListN.{length, drop, get_or}
 use Rattle.register.specs.Words.{cells}
 use Rattle.register.specs.Register.{feeds}

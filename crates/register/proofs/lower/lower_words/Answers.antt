@@ -1,5 +1,4 @@
 use mathlib.Core.Path.{◌≡◌}
-use Prim.Native.Nat.{◌-◌}
 use native.Mathlib.Omega.{arith}
 use Rattle.register.proofs.Cells.{cells-length}
 use Rattle.register.proofs.Moves.{lower-none, lower-word-more}

@@ -4,8 +4,7 @@ use Prim.Native.Nat.{ℕ, ◌+◌, ◌*◌, ◌-◌, ◌≤◌}
 use mathlib.Core.Path.{◌≡◌, ap, ap₂, ◌∙◌}
 use mathlib.Core.List.{List}
 use lib.ListN.{length}
-use borrow.Rule.Slice.PartMut.{mid_of, put_mid, mid_len}
-use Rattle.lists.proofs.Fill.{fill_all}
+use borrow.Rule.Slice.PartMut.{put_mid}
 use Rattle.register.proofs.Cells.{cells-length}
 use Rattle.sheet.proofs.Passes.{error-none, error_past, error-put}
 use Rattle.sheet.proofs.judge.keep_error.Goals as goal
