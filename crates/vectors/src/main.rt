@@ -319,8 +319,8 @@ fn vector(rt: &(impl Input + Print), o: u8) -> io::Result<()> {
         9 => read_sheet(rt, Mode::Spots, profile(rt)?)?,
         10 => look(rt, profile(rt)?)?,
         11 => fill(rt, profile(rt)?)?,
-        12 => stand_table(rt)?,
-        _ => list(rt, profile(rt)?)?,
+        13 => list(rt, profile(rt)?)?,
+        _ => stand_table(rt)?,
     }
     end(rt)
 }

@@ -4,7 +4,7 @@
 use std::ffi::OsString;
 use std::path::PathBuf;
 
-pub const USAGE: &str = "usage: sheet-look FILE [--limit L] [--all] [--svg OUT]";
+pub const USAGE: &str = "usage: sheet-look FILE [--svg OUT]";
 
 const HELP: &str = "
 Looks at a film sheet in scratch mode and tells where its scratches lie, before anything is mended. No payload is written.

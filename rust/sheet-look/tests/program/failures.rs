@@ -5,7 +5,7 @@ use program_runs::Ended;
 use crate::expected;
 use crate::run::{example, folder, names, PROGRAM};
 
-const USAGE: &str = "usage: sheet-look FILE [--limit L] [--all] [--svg OUT]\n";
+const USAGE: &str = "usage: sheet-look FILE [--svg OUT]\n";
 
 /// The message for these bytes, the same with each of the options. Nothing is printed, and no drawing is made.
 fn message(bytes: &[u8]) -> String {
