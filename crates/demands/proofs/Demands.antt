@@ -12,7 +12,6 @@ use Rattle.sheet.proofs.Refusals.{sheet_refusals}
 use Rattle.sheet.proofs.Promise.{sheet_promise}
 use Rattle.demands.proofs.Examples.{starred_examples}
 use Rattle.demands.proofs.Requests.{requests}
-use Rattle.demands.proofs.TestersList.{testers_list}
 use Rattle.plot_promises.proofs.Lines.{lines_hold_iff}
 use Rattle.plot_promises.proofs.Canonical.{record_bytes, plots_unique, written_as_read, read_as_written, accepted_form, added_is_found}
 use Rattle.plot_promises.proofs.Stepping.{stepping_exactly}
@@ -89,4 +88,4 @@ beside = record {
 }
 
 pub all_promises : AllPromises
-all_promises = record { demands = demands; beside = beside; requests = requests; list = testers_list }
+all_promises = record { demands = demands; beside = beside; requests = requests }

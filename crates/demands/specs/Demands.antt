@@ -1,5 +1,5 @@
 -- What the customer demands, sentence by sentence in the customer's own words ("What the customer demands"), each with the statement that says it; then
--- what document 01 asks beside the three demands; what document 02 asks is in Requests.antt, and the tester's list in TestersList.antt. A statement is defined in the crate that its `use` line names; proofs/Demands.antt proves them all.
+-- what document 01 asks beside the three demands; what document 02 asks is in Requests.antt. A statement is defined in the crate that its `use` line names; proofs/Demands.antt proves them all.
 use Rattle.std.specs.Prelude.{◌≡◌, List, ℕ, ◌*◌, ◌≤◌, length}
 use Rattle.lists.specs.Bytes.{Bytes}
 use Rattle.field.specs.Laws.{FieldLaws, AlphaLaws}
@@ -17,7 +17,6 @@ use Rattle.sheet.specs.Theorems.{Places, TakenApart, DifferIff, WritesSheet, Rea
 use Rattle.sheet.specs.Promise.{Damaged, ReadsBack}
 use Rattle.demands.specs.Examples.{StarredExamples}
 use Rattle.demands.specs.Requests.{Requests}
-use Rattle.demands.specs.TestersList.{TestersList}
 use Rattle.plot.specs.Layout.{Plot}
 use Rattle.plot_promises.specs.Lines.{LinesHoldIff}
 use Rattle.plot_promises.specs.Canonical.{RecordBytes, PlotsUnique, WrittenAsRead, ReadAsWritten, AcceptedForm, AddedIsFound}
@@ -136,4 +135,3 @@ pub record AllPromises : Type 0 where
   pub demands : Demands
   pub beside : Beside
   pub requests : Requests
-  pub list : TestersList

@@ -47,10 +47,10 @@ fn list_input(rt: &(impl Input + Print), input: &mut [u8], out: &mut [u8]) -> io
 }
 
 fn main(rt: HostRuntime) -> io::Result<()> {
-    // `enough_input` bytes: five, 16 blocks of 255 cells, and one more, so that a longer input is seen to be longer (theorem `enough-input` of the
+    // `enough_input` bytes: five, 16 blocks of 255 cells, and one more, so that a longer input is seen to be longer (theorem `enough_input_lem` of the
     // listing crate).
     let mut input = [0u8; 4086];
-    // `longest_text` bytes: no text is longer (theorem `text-fits` of the listing crate).
+    // `longest_text` bytes: no text is longer (theorem `text_fits` of the listing crate).
     let mut out = [0u8; 22968];
     list_input(&rt, &mut input, &mut out)
 }

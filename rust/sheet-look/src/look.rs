@@ -102,7 +102,7 @@ mod tests {
 
     /// A run of four cells with r = 6: with three wrong cells it is mended, with two it is thin, and mending changes nothing.
     #[test]
-    fn a_sparse_run() {
+    fn a_thin_run() {
         let profile = Profile::new(9, 6, 1, 5, 1).expect("in range");
         let mut read = vec![0; 9];
         profile.write_block(&[1, 2, 3], &mut read).expect("the lengths fit");
