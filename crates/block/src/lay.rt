@@ -15,7 +15,7 @@ pub(crate) fn copy_cells(from: &[u8], to: &mut [u8])
     ensures { to.new ≡ from.now }
 {
     let mut i = 0;
-    while i < to.len() {
+    'cells: while i < to.len() {
         to[i] = from[i];
         i += 1;
     }
@@ -67,7 +67,9 @@ pub(crate) fn fill_run(
     ensures value { result ≡ pick (leb (extent (cells error)) size) Filled.Done Filled.NoCodeword }
     ensures out_after { out.new ≡ pick (leb (extent (cells error)) size) (added_at start (take size (cells error)) read.now) out.old }
 {
-    if size < register::extent(error) {
+    let needed = register::extent(error);
+    let is_short = size < needed;
+    if is_short {
         return Filled::NoCodeword;
     }
     place(read, register::low_cells(error), start, size, out);

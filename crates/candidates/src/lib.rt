@@ -32,7 +32,8 @@ fn tight_length(p: Profile, s: usize, error: Register) -> usize
     ensures { result ≡ tight_from p s (cells error) }
 {
     let e = register::extent(error);
-    if register::bottom(error) == 0 {
+    let is_unchanged = register::bottom(error) == 0;
+    if is_unchanged {
         return 0;
     }
     if p.limit < e {

@@ -223,7 +223,8 @@ pub fn locate(syndromes: &[u8], n: usize, h: usize) -> Located
     }
     let cells = locator_cells(k.connection, size);
     let found = roots_among(&cells[..size + 1], words::least(n, 255));
-    if found.count != size {
+    let is_another = found.count != size;
+    if is_another {
         return none_near();
     }
     found

@@ -6,12 +6,12 @@ use Rattle.register.proofs.Cells.{cells-length}
 use Rattle.candidates.proofs.Steps.{first-zero, too_long, past_end, tight_found}
 use Rattle.candidates.proofs.tight_length.Goals as goal
 
-pub returns-then-bottom-eq0 : goal.returns-then-bottom-eq0
-returns-then-bottom-eq0 c = first-zero _ _ _ _ c.extent-e.ensures _ c.bottom.ensures.0 c.if-bottom-eq0.true
+pub returns-then-is_unchanged : goal.returns-then-is_unchanged
+returns-then-is_unchanged c = first-zero _ _ _ _ c.extent-e.ensures _ c.bottom-is_unchanged.ensures.0 c.if-is_unchanged.true
 
 pub returns-then-p-e : goal.returns-then-p-e
 returns-then-p-e c =
-    too_long _ _ _ _ c.extent-e.ensures _ c.bottom.ensures.0 c.if-bottom-eq0.false c.if-p-e.true
+    too_long _ _ _ _ c.extent-e.ensures _ c.bottom-is_unchanged.ensures.0 c.if-is_unchanged.false c.if-p-e.true
 
 pub overflow_add-s : goal.overflow_add-s
 overflow_add-s c =
@@ -19,8 +19,8 @@ overflow_add-s c =
 
 pub returns-then-p-s : goal.returns-then-p-s
 returns-then-p-s c =
-    past_end _ _ _ _ c.extent-e.ensures _ c.bottom.ensures.0 c.if-bottom-eq0.false c.if-p-e.false c.if-p-s.true
+    past_end _ _ _ _ c.extent-e.ensures _ c.bottom-is_unchanged.ensures.0 c.if-is_unchanged.false c.if-p-e.false c.if-p-s.true
 
 pub returns : goal.returns
 returns c =
-    tight_found _ _ _ _ c.extent-e.ensures _ c.bottom.ensures.0 c.if-bottom-eq0.false c.if-p-e.false c.if-p-s.false
+    tight_found _ _ _ _ c.extent-e.ensures _ c.bottom-is_unchanged.ensures.0 c.if-is_unchanged.false c.if-p-e.false c.if-p-s.false

@@ -28,15 +28,15 @@ slice_bounds-roots_among-end c =
 pub roots_among-found-requires : goal.roots_among-found-requires
 roots_among-found-requires c = omega (arith, c.least.ensures)
 
-pub returns-then-found-size : goal.returns-then-found-size
-returns-then-found-size c =
+pub returns-then-is_another : goal.returns-then-is_another
+returns-then-is_another c =
     let a = c.args in
-    c.none_near-then-found-size.ensures
+    c.none_near-then-is_another.ensures
     ∙ roots_missing a.syndromes.now a.n a.h _ _ c.least-limit.ensures c.recursion_over-k.ensures _ _ _ c.least.ensures (omega arith) c.locator_cells-cells.ensures.0
-    c.roots_among-found.ensures c.if-found-size.true
+    c.roots_among-found.ensures c.if-is_another.true
 
 pub returns : goal.returns
 returns c =
     let a = c.args in
     roots_right a.syndromes.now a.n a.h _ _ c.least-limit.ensures c.recursion_over-k.ensures _ _ _ c.least.ensures (omega arith) c.locator_cells-cells.ensures.0
-    c.roots_among-found.ensures c.if-found-size.false
+    c.roots_among-found.ensures c.if-is_another.false

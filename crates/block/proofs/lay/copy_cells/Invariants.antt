@@ -5,8 +5,8 @@ use mathlib.Core.List.{◌++◌}
 use lib.ListN.{length, take, drop}
 use Rattle.block.proofs.lay.copy_cells.Given as goal
 
-abbrev pub invariant-loop-i : goal.invariant-loop-i
-invariant-loop-i l = (l.i ≤ length l.initial.to) × (length l.to ≡ length l.initial.to) × (l.to ≡ take l.i l.from ++ drop l.i l.initial.to)
+abbrev pub invariant-cells : goal.invariant-cells
+invariant-cells l = (l.i ≤ length l.initial.to) × (length l.to ≡ length l.initial.to) × (l.to ≡ take l.i l.from ++ drop l.i l.initial.to)
 
-abbrev pub decreases-loop-i : goal.decreases-loop-i
-decreases-loop-i l = length l.initial.to - l.i
+abbrev pub decreases-cells : goal.decreases-cells
+decreases-cells l = length l.initial.to - l.i

@@ -2,9 +2,9 @@
 use Rattle.block.proofs.Filling.{run-not, run_done}
 use Rattle.block.proofs.lay.fill_run.Goals as goal
 
-pub returns-then-size-extent : goal.returns-then-size-extent
-returns-then-size-extent c =
-    let whole = run-not _ _ _ _ _ _ c.extent.ensures c.if-size-extent.true in
+pub returns-then-is_short : goal.returns-then-is_short
+returns-then-is_short c =
+    let whole = run-not _ _ _ _ _ _ c.extent-needed.ensures c.if-is_short.true in
     record { value = whole.0; out_after = whole.1 }
 
 pub place-requires : goal.place-requires
@@ -12,5 +12,5 @@ place-requires c = record { out_len = c.requires.out_len; size_in_bounds = c.req
 
 pub returns : goal.returns
 returns c =
-    let whole = run_done _ _ _ _ _ _ c.extent.ensures c.if-size-extent.false _ _ c.low_cells.ensures c.place.ensures in
+    let whole = run_done _ _ _ _ _ _ c.extent-needed.ensures c.if-is_short.false _ _ c.low_cells.ensures c.place.ensures in
     record { value = whole.0; out_after = whole.1 }
