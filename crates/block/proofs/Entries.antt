@@ -1,6 +1,7 @@
 -- The cases of an entry, over plain values: refusal 1, refusal 2, and what the register gives for an accepted block.
 use mathlib.Core.Path.{◌≡◌, refl, sym, ap, ap₂, ◌∙◌}
 use mathlib.Core.Bool.{Bool, true, false}
+use Rattle.std.specs.Prelude.{Ok, Err}
 use mathlib.Core.List.{List, [], ◌++◌}
 use Prim.Native.Nat.{ℕ, ◌+◌, ◌-◌, ◌≤◌, ◌<◌, min, zero-le}
 use native.Mathlib.Nat.{min-eq_left, min-eq_right, le_of_eq}
@@ -10,13 +11,13 @@ use native.Mathlib.Omega.{arith}
 use lib.Dec.{eqb}
 use lib.ListN.{length, get_or, take, drop, replicate, take-append-drop, length-drop, drop_of_length-le}
 use lib.Seq.{length-take-le, take_all, take_at, get_or-append-add}
-use borrow.Author.Tests.{eqb-true, eq-eqb, ne_eqb, le-leb, lt-leb}
+use borrow.Author.Tests.{eqb-true, eq-eqb, ne_eqb, le-leb}
 use Rattle.lists.specs.Choice.{pick, both}
 use Rattle.lists.specs.Bytes.{Bytes}
 use Rattle.code.specs.Poly.{padd}
 use Rattle.code.specs.Code.{generator, remainder}
 use Rattle.code.specs.Run.{ZeroFrom, shifted_remainder}
-use Rattle.block.specs.Numbers.{verdict_start}
+use Rattle.block.specs.Numbers.{Verdict, verdict_start}
 use Rattle.code.specs.Search.{extent}
 use Rattle.lists.proofs.Bytes.{take-bytes, drop-bytes}
 use Rattle.code.proofs.Poly.{get_or_zeros, padd-zeros}
@@ -33,28 +34,15 @@ use Rattle.register.proofs.Remainder.{remainder-feeds, check-cells}
 use Rattle.profile.specs.Profile.{InRange, in_range, message_length}
 use Rattle.block.specs.Block.{check_cells, encode, is_clean, judged, verdict, filled, read_remainder, check_answer, write_fits, write_answer, write_leaves, correct_fits, correct_answer, correct_leaves, look_answer, look_error}
 use Rattle.block.specs.Found.{generator_on_top, shifted_at}
-use Rattle.block.specs.declared.Verdict.{Verdict}
-use Rattle.block.specs.declared.Verdict.TheVariants as verdicts
-use Rattle.block.specs.declared.Written.TheVariants as writes
-use Rattle.block.specs.declared.Checked.TheVariants as checks
+use Rattle.block.specs.declared.numbers.Refusal.TheVariants as refusals
 use Rattle.profile.specs.declared.Profile.{Profile}
 use Rattle.profile.proofs.Refusing.{refuse_one, refuse_two, accept}
 use Rattle.block.proofs.Encoding.{check-length}
 
 -- ---- lengths
 
-both_no : (a : Bool) → both a false ≡ false
-both_no true = refl
-both_no false = refl
-
 pub both_right_length : (a b m n : ℕ) → a ≡ m → b ≡ n → both (eqb a m) (eqb b n) ≡ true
 both_right_length a b m n e f = rw (eq-eqb a m e, eq-eqb b n f)
-
-pub first_wrong : (a b m n : ℕ) → (a ≡ m → ⊥) → both (eqb a m) (eqb b n) ≡ false
-first_wrong a b m n h = rw (ne_eqb a m h)
-
-pub second_wrong : (a b m n : ℕ) → a ≡ m → (b ≡ n → ⊥) → both (eqb a m) (eqb b n) ≡ false
-second_wrong a b m n e h = rw (eq-eqb a m e, ne_eqb b n h)
 
 -- ---- what the register gives
 
@@ -150,14 +138,6 @@ module _ (p : Profile) (v : InRange p) where
 -- ---- the remainder
 
 module _ (p : Profile) (y : List ℕ) where
-  pub remainder-one : in_range p ≡ false → replicate 64 0 ≡ read_remainder p y
-  unfolding read_remainder
-  remainder-one e = refuse_one p _ _ _ _ e
-
-  pub remainder-two : in_range p ≡ true → (length y ≡ p.n → ⊥) → replicate 64 0 ≡ read_remainder p y
-  unfolding read_remainder
-  remainder-two v h = refuse_two p _ _ _ _ v (ne_eqb _ _ h)
-
   pub remainder-rest : in_range p ≡ true → length y ≡ p.n → (Z : List ℕ) → Z ≡ pad_to 64 (remainder p.r (generator p.b p.r) y) → Z ≡ read_remainder p y
   unfolding read_remainder
   remainder-rest v h Z e = e ∙ accept p _ _ _ _ v (eq-eqb _ _ h)
@@ -165,30 +145,14 @@ module _ (p : Profile) (y : List ℕ) where
 -- ---- the checker
 
 module _ (p : Profile) (y : List ℕ) where
-  pub check-one : in_range p ≡ false → checks.BadProfile ≡ check_answer p y
+  pub check-rest : in_range p ≡ true → length y ≡ p.n → (a : Bool) → is_clean p.b p.r y ≡ a → Ok a ≡ check_answer p y
   unfolding check_answer
-  check-one e = refuse_one p _ _ _ _ e
-
-  pub check-two : in_range p ≡ true → (length y ≡ p.n → ⊥) → checks.WrongLength ≡ check_answer p y
-  unfolding check_answer
-  check-two v h = refuse_two p _ _ _ _ v (ne_eqb _ _ h)
-
-  pub check-rest : in_range p ≡ true → length y ≡ p.n → (a : Bool) → is_clean p.b p.r y ≡ a → pick a checks.Clean checks.NotClean ≡ check_answer p y
-  unfolding check_answer
-  check-rest v h a e = ap (λ (b : Bool). pick b checks.Clean checks.NotClean) (sym e) ∙ accept p _ _ _ _ v (eq-eqb _ _ h)
+  check-rest v h a e = ap (λ (b : Bool). Ok b) (sym e) ∙ accept p _ _ _ _ v (eq-eqb _ _ h)
 
 -- ---- the writer
 
 module _ (p : Profile) (m out : List ℕ) where
-  pub write_one : in_range p ≡ false → (writes.BadProfile ≡ write_answer p m out) × (out ≡ write_leaves p m out)
-  unfolding write_answer write_leaves
-  write_one e = (refuse_one p _ _ _ _ e, refuse_one p _ _ _ _ e)
-
-  pub write_two : in_range p ≡ true → write_fits p m out ≡ false → (writes.WrongLength ≡ write_answer p m out) × (out ≡ write_leaves p m out)
-  unfolding write_answer write_leaves
-  write_two v f = (refuse_two p _ _ _ _ v f, refuse_two p _ _ _ _ v f)
-
-  pub write_done : in_range p ≡ true → write_fits p m out ≡ true → (writes.Done ≡ write_answer p m out) × (encode p.b p.r m ≡ write_leaves p m out)
+  pub write_done : in_range p ≡ true → write_fits p m out ≡ true → ((Ok tt) ≡ write_answer p m out) × (encode p.b p.r m ≡ write_leaves p m out)
   unfolding write_answer write_leaves
   write_done v f = (accept p _ _ _ _ v f, accept p _ _ _ _ v f)
 
@@ -196,22 +160,14 @@ module _ (p : Profile) (m out : List ℕ) where
   unfolding write_fits
   write_fits_lem e f = both_right_length _ _ _ _ e f
 
-  pub message_wrong : (length m ≡ message_length p → ⊥) → write_fits p m out ≡ false
-  unfolding write_fits
-  message_wrong h = first_wrong _ (length out) _ p.n h
-
-  pub block_wrong : length m ≡ message_length p → (length out ≡ p.n → ⊥) → write_fits p m out ≡ false
-  unfolding write_fits
-  block_wrong e h = second_wrong _ _ _ _ e h
-
 -- ---- the look
 
 module _ (p : Profile) (y : List ℕ) where
-  pub look_one : in_range p ≡ false → verdicts.BadProfile ≡ look_answer p y
+  pub look_one : in_range p ≡ false → (Err refusals.BadProfile) ≡ look_answer p y
   unfolding look_answer
   look_one e = refuse_one p _ _ _ _ e
 
-  pub look_two : in_range p ≡ true → (length y ≡ p.n → ⊥) → verdicts.WrongLength ≡ look_answer p y
+  pub look_two : in_range p ≡ true → (length y ≡ p.n → ⊥) → (Err refusals.WrongLength) ≡ look_answer p y
   unfolding look_answer
   look_two v h = refuse_two p _ _ _ _ v (ne_eqb _ _ h)
 
@@ -219,34 +175,11 @@ module _ (p : Profile) (y : List ℕ) where
   unfolding look_answer
   look_rest v h a e = e ∙ accept p _ _ _ _ v (eq-eqb _ _ h)
 
-  -- the shifted remainder beside it
-  pub error-one : in_range p ≡ false → (E : List ℕ) → E ≡ replicate 64 0 → E ≡ look_error p y
-  unfolding look_error
-  error-one e E q = q ∙ refuse_one p _ _ _ _ e
-
-  pub error-two : in_range p ≡ true → (length y ≡ p.n → ⊥) → (E : List ℕ) → E ≡ replicate 64 0 → E ≡ look_error p y
-  unfolding look_error
-  error-two v h E q = q ∙ refuse_two p _ _ _ _ v (ne_eqb _ _ h)
-
   pub error-rest : in_range p ≡ true → length y ≡ p.n → (E : List ℕ) → E ≡ pad_to 64 (shifted_remainder p.b p.r (verdict_start (verdict p y)) y) → E ≡ look_error p y
   unfolding look_error
   error-rest v h E q = q ∙ accept p _ _ _ _ v (eq-eqb _ _ h)
 
-  -- the shifted remainder at a start that is named
-  pub at_one : in_range p ≡ false → (s : ℕ) (E : List ℕ) → E ≡ replicate 64 0 → E ≡ shifted_at p y s
-  unfolding shifted_at
-  at_one e s E q = q ∙ refuse_one p _ _ _ _ e
-
-  pub at-two : in_range p ≡ true → (length y ≡ p.n → ⊥) → (s : ℕ) (E : List ℕ) → E ≡ replicate 64 0 → E ≡ shifted_at p y s
-  unfolding shifted_at
-  at-two v h s E q = q ∙ refuse_two p _ _ _ _ v (ne_eqb _ _ h)
-
   module _ (v : in_range p ≡ true) (h : length y ≡ p.n) (s : ℕ) (E : List ℕ) where
-    pub at_past : p.n < s → E ≡ replicate 64 0 → E ≡ shifted_at p y s
-    unfolding shifted_at
-    at_past l q =
-        q ∙ ap (λ (b : Bool). pick b (pad_to 64 (shifted_remainder p.b p.r s y)) (replicate 64 0)) (sym (lt-leb s p.n l)) ∙ accept p _ _ _ _ v (eq-eqb _ _ h)
-
     pub at_rest : s ≤ p.n → E ≡ pad_to 64 (shifted_remainder p.b p.r s y) → E ≡ shifted_at p y s
     unfolding shifted_at
     at_rest l q =
@@ -265,41 +198,17 @@ unfolding correct_fits
 same-fits p q y out e = rw e
 
 module _ (p : Profile) (y out : List ℕ) where
-  pub correct_one : in_range p ≡ false → (verdicts.BadProfile ≡ correct_answer p y out) × (out ≡ correct_leaves p y out)
-  unfolding correct_leaves filled
-  correct_one e =
-      let a : verdicts.BadProfile ≡ correct_answer p y out = unfold correct_answer in refuse_one p (correct_fits p y out) verdicts.BadProfile verdicts.WrongLength (verdict p y) e in
-      (a, ap (filled p y out) a)
-
-  pub correct_two : in_range p ≡ true → correct_fits p y out ≡ false → (verdicts.WrongLength ≡ correct_answer p y out) × (out ≡ correct_leaves p y out)
-  unfolding correct_leaves filled
-  correct_two v f =
-      let a : verdicts.WrongLength ≡ correct_answer p y out = unfold correct_answer in refuse_two p (correct_fits p y out) verdicts.BadProfile verdicts.WrongLength (verdict p y) v f in
-      (a, ap (filled p y out) a)
-
   pub correct_rest : in_range p ≡ true → correct_fits p y out ≡ true → (a : Verdict) (o : List ℕ) → a ≡ verdict p y → o ≡ filled p y out (verdict p y)
       → (a ≡ correct_answer p y out) × (o ≡ correct_leaves p y out)
   unfolding correct_leaves
   correct_rest v f a o ea eo =
-      let q : verdict p y ≡ correct_answer p y out = unfold correct_answer in accept p (correct_fits p y out) verdicts.BadProfile verdicts.WrongLength (verdict p y) v f in
+      let q : verdict p y ≡ correct_answer p y out = unfold correct_answer in accept p (correct_fits p y out) (Err refusals.BadProfile) (Err refusals.WrongLength) (verdict p y) v f in
       (ea ∙ q, eo ∙ ap (filled p y out) q)
 
   pub correct_fits_lem : length y ≡ p.n → length out ≡ p.n → correct_fits p y out ≡ true
   unfolding correct_fits
   correct_fits_lem e f = both_right_length _ _ _ _ e f
 
-  pub read_wrong : (length y ≡ p.n → ⊥) → correct_fits p y out ≡ false
-  unfolding correct_fits
-  read_wrong h = first_wrong _ (length out) _ p.n h
-
   pub read_right : correct_fits p y out ≡ true → length y ≡ p.n
   unfolding correct_fits
   read_right w = eqb-true _ _ (both_true (eqb (length y) p.n) (eqb (length out) p.n) w).0
-
-  pub second_buffer_wrong : (length out ≡ p.n → ⊥) → correct_fits p y out ≡ false
-  unfolding correct_fits
-  second_buffer_wrong h = ap (both (eqb (length y) p.n)) (ne_eqb _ _ h) ∙ both_no (eqb (length y) p.n)
-
-  pub out_wrong : length y ≡ p.n → (length out ≡ p.n → ⊥) → correct_fits p y out ≡ false
-  unfolding correct_fits
-  out_wrong e h = second_wrong _ _ _ _ e h

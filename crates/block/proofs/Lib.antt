@@ -8,6 +8,5 @@ pub mod Answers
 pub mod Outcome
 pub mod Filling
 pub mod Within
-pub mod Copies
 pub mod Promises
 pub mod LookAndFill

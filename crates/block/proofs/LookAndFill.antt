@@ -2,6 +2,7 @@
 use mathlib.Core.Path.{◌≡◌, refl, sym, ap, ap₂, subst, ◌∙◌}
 use mathlib.Core.Logic.{◌≢◌, ◌⊎◌, inl, inr, ⊎_elim}
 use mathlib.Core.Bool.{Bool, true, false}
+use Rattle.std.specs.Prelude.{Ok, Err}
 use mathlib.Core.List.{List}
 use Prim.Native.Nat.{ℕ, ◌+◌, ◌-◌, ◌≤◌, ◌<◌}
 use native.Mathlib.Omega.{arith}
@@ -16,17 +17,19 @@ use Rattle.words.specs.Cells.{pad_to}
 use Rattle.profile.specs.Profile.{InRange, in_range}
 use Rattle.profile.specs.Refusals.{refusing, EarlyRefusals}
 use Rattle.profile.proofs.Ranges.{in_range_lem}
+use Rattle.answers.proofs.Numbers.{no_place}
 use Rattle.profile.proofs.Refusing.{refusing_of, same-refusing, early_of}
-use Rattle.block.specs.Block.{verdict, corrected, is_span, is_within, run_word, correct_fits, correct_answer, correct_leaves, look_answer, look_error, filling, fill_answer, fill_leaves, fill_by_leaves}
-use Rattle.block.specs.Numbers.{verdict_number, verdict_start, verdict_length, filled_number}
+use Rattle.block.specs.Block.{verdict, corrected, filled, is_span, is_within, run_word, correct_fits, correct_answer, correct_leaves, look_answer, look_error, filling, fill_answer, fill_leaves, fill_by_answer, fill_by_leaves}
+use Rattle.block.specs.Numbers.{Verdict, Filled, correction_start, correction_length, verdict_number, verdict_start, verdict_length, filled_number}
 use Rattle.block.specs.Runs.{Word, Reached}
 use Rattle.block.specs.Promises.{LentBlock}
 use Rattle.block.specs.LookAndFill.{LookIff, LookRefusals, Fills, FilledIff, OneWithin, NoCodewordIff, FillLimitFree, EmptyRun, FillRefusals, LooksThenFills, FillsAtOnce}
 use Rattle.profile.specs.declared.Profile.{Profile}
-use Rattle.block.specs.declared.Verdict.{Verdict}
-use Rattle.block.specs.declared.Verdict.TheVariants as verdicts
-use Rattle.block.specs.declared.Filled.{Filled}
-use Rattle.block.specs.declared.Filled.TheVariants as fills
+use Rattle.block.specs.declared.numbers.Correction.{Correction}
+use Rattle.block.specs.declared.numbers.Correction.TheVariants.{Run}
+use Rattle.block.specs.declared.numbers.Refusal.{Refusal}
+use Rattle.block.specs.declared.numbers.Refusal.TheVariants as refusals
+use Rattle.block.specs.declared.numbers.FillRefusal.TheVariants as fills
 use Rattle.block.proofs.NumberLaws.{number-3, number-4, number-16, case_of, verdict-0, verdict-late, no_values}
 use Rattle.block.proofs.Shortest.{empty_run}
 use Rattle.block.proofs.Entries.{same-fits, correct_fits_lem, correct_rest, look_one, look_two, look_rest, error-rest}
@@ -53,11 +56,11 @@ look_iff p y v h =
       two = (λ q. two.0 (sym e ∙ number-4 (look_answer p y) q), λ n. ap verdict_number (e ∙ two.1 n));
       one = λ s f. (
         λ q.
-            let w : verdict p y ≡ verdicts.Corrected s f =
-            verdict-0 p y (ap verdict_number (sym e) ∙ q.0) ∙ ap₂ verdicts.Corrected (ap verdict_start (sym e) ∙ q.1) (ap verdict_length (sym e) ∙ q.2) in
+            let w : verdict p y ≡ Ok (Run s f) =
+            verdict-0 p y (ap verdict_number (sym e) ∙ q.0) ∙ ap₂ (λ (i j : ℕ). Ok (Run i j)) (ap verdict_start (sym e) ∙ q.1) (ap verdict_length (sym e) ∙ q.2) in
             (corrected p y, (verdict-one p y v h s f (corrected p y)).0 (w, refl)),
         λ k.
-            let w : look_answer p y ≡ verdicts.Corrected s f = e ∙ ((verdict-one p y v h s f k.0).1 k.1).0 in
+            let w : look_answer p y ≡ Ok (Run s f) = e ∙ ((verdict-one p y v h s f k.0).1 k.1).0 in
             (ap verdict_number w, ap verdict_start w, ap verdict_length w),
       );
       sparse = (λ q. sparse.0 (sym e ∙ number-16 (look_answer p y) q), λ n. ap verdict_number (e ∙ sparse.1 n));
@@ -67,16 +70,16 @@ module _ (p : Profile) (y : List ℕ) where
   of_burst : case_of (look_answer p y) ≢ 2
   unfolding look_answer
   of_burst =
-      refusing_of p (eqb (length y) p.n) verdicts.BadProfile verdicts.WrongLength (verdict p y) (λ (w : Verdict). case_of w ≢ 2) (λ q. omega arith) (λ q. omega arith)
+      refusing_of p (eqb (length y) p.n) (Err refusals.BadProfile) (Err refusals.WrongLength) (verdict p y) (λ (w : Verdict). case_of w ≢ 2) (λ q. omega arith) (λ q. omega arith)
       (verdict-late p y).burst
 
   pub look_refusals : LookRefusals p y
   unfolding look_answer
   look_refusals = record {
     early =
-        early_of p (eqb (length y) p.n) (length y ≡ p.n) (eqb-true (length y) p.n, eq-eqb (length y) p.n) verdict_number verdicts.BadProfile verdicts.WrongLength (verdict p y) refl refl
+        early_of p (eqb (length y) p.n) (length y ≡ p.n) (eqb-true (length y) p.n, eq-eqb (length y) p.n) verdict_number (Err refusals.BadProfile) (Err refusals.WrongLength) (verdict p y) refl refl
         (verdict-late p y).not_1 (verdict-late p y).not_2;
-    place = refl;
+    place = no_place (look_answer p y);
     run = λ n. let z = no_values (look_answer p y) n in (z.start, z.size);
     no_cells = (λ q. of_burst (ap case_of q), λ t j q. of_burst (ap case_of q));
   }
@@ -84,9 +87,9 @@ module _ (p : Profile) (y : List ℕ) where
 -- ---- the fill
 
 -- the five cases, with what is answered and left in each
-five : (P : Filled → List ℕ → Type 0) (out word : List ℕ) → P fills.BadProfile out → P fills.WrongLength out → P fills.BadSpan out → P fills.NoCodeword out → P fills.Done word
+five : (P : Filled → List ℕ → Type 0) (out word : List ℕ) → P (Err fills.BadProfile) out → P (Err fills.WrongLength) out → P (Err fills.BadSpan) out → P (Err fills.NoCodeword) out → P (Ok tt) word
     → (valid fits span within : Bool)
-    → P (pick valid (pick fits (pick span (pick within fills.Done fills.NoCodeword) fills.BadSpan) fills.WrongLength) fills.BadProfile)
+    → P (pick valid (pick fits (pick span (pick within (Ok tt) (Err fills.NoCodeword)) (Err fills.BadSpan)) (Err fills.WrongLength)) (Err fills.BadProfile))
     (pick valid (pick fits (pick span (pick within word out) out) out) out)
 five P out word one two bad none done false fits span within = one
 five P out word one two bad none done true false span within = two
@@ -95,7 +98,7 @@ five P out word one two bad none done true true true false = none
 five P out word one two bad none done true true true true = done
 
 fill_of : (P : Filled → List ℕ → Type 0) (p : Profile) (y : List ℕ) (s f : ℕ) (out : List ℕ)
-    → P fills.BadProfile out → P fills.WrongLength out → P fills.BadSpan out → P fills.NoCodeword out → P fills.Done (run_word p y s f)
+    → P (Err fills.BadProfile) out → P (Err fills.WrongLength) out → P (Err fills.BadSpan) out → P (Err fills.NoCodeword) out → P (Ok tt) (run_word p y s f)
     → P (fill_answer p y s f out) (fill_leaves p y s f out)
 unfolding fill_answer fill_leaves filling refusing
 fill_of P p y s f out one two bad none done =
@@ -114,11 +117,11 @@ module _ (p : Profile) (y : List ℕ) (s f : ℕ) (out : List ℕ) (v : InRange 
 
   module _ (e : is_span p s f ≡ true) where
     no_word : is_within p y s f ≡ false → number ≡ 3
-    no_word t = sym (ap filled_number (fill_rest p y s f out ((in_range_lem p).1 v) fits e fills.NoCodeword out (rw t) (rw t)).0)
+    no_word t = sym (ap filled_number (fill_rest p y s f out ((in_range_lem p).1 v) fits e (Err fills.NoCodeword) out (rw t) (rw t)).0)
 
     its_word : is_within p y s f ≡ true → Fills p y s f out (run_word p y s f)
     its_word t =
-        let z = fill_rest p y s f out ((in_range_lem p).1 v) fits e fills.Done (run_word p y s f) (rw t) (rw t) in
+        let z = fill_rest p y s f out ((in_range_lem p).1 v) fits e (Ok tt) (run_word p y s f) (rw t) (rw t) in
         record { accepted = sym (ap filled_number z.0); leaves = sym z.1 }
 
   -- by the two tests
@@ -188,15 +191,15 @@ fill_limit_free p q y s f out v w en er eb = same_fill p q y s f out v w en er e
 
 module _ (p : Profile) (y : List ℕ) (s f : ℕ) (out : List ℕ) where
   abbrev late : Filled
-  late = pick (is_span p s f) (pick (is_within p y s f) fills.Done fills.NoCodeword) fills.BadSpan
+  late = pick (is_span p s f) (pick (is_within p y s f) (Ok tt) (Err fills.NoCodeword)) (Err fills.BadSpan)
 
-  late_of : (P : Filled → Type 0) → P fills.Done → P fills.NoCodeword → P fills.BadSpan → P late
-  late_of P done none bad = pick_of P (is_span p s f) _ fills.BadSpan (pick_of P (is_within p y s f) fills.Done fills.NoCodeword done none) bad
+  late_of : (P : Filled → Type 0) → P (Ok tt) → P (Err fills.NoCodeword) → P (Err fills.BadSpan) → P late
+  late_of P done none bad = pick_of P (is_span p s f) _ (Err fills.BadSpan) (pick_of P (is_within p y s f) (Ok tt) (Err fills.NoCodeword) done none) bad
 
   fill_early : EarlyRefusals p ((length y ≡ p.n) × (length out ≡ p.n)) (filled_number (fill_answer p y s f out))
   unfolding fill_answer filling correct_fits
   fill_early =
-      early_of p (correct_fits p y out) _ (two_lengths (length y) (length out) p.n p.n) filled_number fills.BadProfile fills.WrongLength late refl refl
+      early_of p (correct_fits p y out) _ (two_lengths (length y) (length out) p.n p.n) filled_number (Err fills.BadProfile) (Err fills.WrongLength) late refl refl
       (late_of (λ (w : Filled). filled_number w ≢ 1) (λ q. omega arith) (λ q. omega arith) (λ q. omega arith))
       (late_of (λ (w : Filled). filled_number w ≢ 2) (λ q. omega arith) (λ q. omega arith) (λ q. omega arith))
 
@@ -216,7 +219,7 @@ module _ (p : Profile) (y : List ℕ) (s f : ℕ) (out : List ℕ) where
   lengths w = (two_lengths (length y) (length out) p.n p.n).0 w
 
   -- a span is not refused by 12
-  not-12 : (x : Bool) → filled_number (pick x fills.Done fills.NoCodeword) ≢ 12
+  not-12 : (x : Bool) → filled_number (pick x (Ok tt) (Err fills.NoCodeword)) ≢ 12
   not-12 true z = omega arith
   not-12 false z = omega arith
 
@@ -245,7 +248,7 @@ module _ (p : Profile) (y : List ℕ) (s f : ℕ) (out : List ℕ) where
     early = fill_early;
     span = (span_there, span_back);
     not_ambiguous = fill_of (λ (a : Filled) (o : List ℕ). filled_number a ≢ 4) p y s f out (λ q. omega arith) (λ q. omega arith) (λ q. omega arith) (λ q. omega arith) (λ q. omega arith);
-    place = refl;
+    place = no_place (fill_answer p y s f out);
     kept = fill_of (λ (a : Filled) (o : List ℕ). filled_number a ≢ 0 → o ≡ out) p y s f out (λ n. refl) (λ n. refl) (λ n. refl) (λ n. refl) (λ n. absurd (n refl));
   }
 
@@ -269,7 +272,7 @@ module _ (p : Profile) (y out : List ℕ) (b : Bytes y) (l : length out ≡ p.n)
   same_answer : look_answer p y ≡ correct_answer p y out
   unfolding look_answer correct_answer correct_fits
   same_answer =
-      ap (λ (t : Bool). refusing p t verdicts.BadProfile verdicts.WrongLength (verdict p y)) (both_yes (eqb (length y) p.n) ∙ ap (both (eqb (length y) p.n)) (sym (eq-eqb (length out) p.n l)))
+      ap (λ (t : Bool). refusing p t (Err refusals.BadProfile) (Err refusals.WrongLength) (verdict p y)) (both_yes (eqb (length y) p.n) ∙ ap (both (eqb (length y) p.n)) (sym (eq-eqb (length out) p.n l)))
 
   -- the fill of an accepted look, on n cells under a profile in range
   filled_look : (v : InRange p) → length y ≡ p.n → verdict_number (look_answer p y) ≡ 0
@@ -300,11 +303,38 @@ fills-at_once p y out q =
     let z = look_fits p y q in
     let v : InRange p = z.0 in
     let at : look_answer p y ≡ verdict p y = look_is p y v z.1 in
-    by_shifted p y _ _ out (look_error p y) v
-    (sym (error-rest p y ((in_range_lem p).1 v) z.1 _ refl) ∙ ap (λ (u : Verdict). pad_to 64 (shifted_remainder p.b p.r (verdict_start u) y)) (sym at))
+    by_shifted p y _ _ out (look_error p y)
+    (λ _ _ _. sym (error-rest p y ((in_range_lem p).1 v) z.1 _ refl) ∙ ap (λ (u : Verdict). pad_to 64 (shifted_remainder p.b p.r (verdict_start u) y)) (sym at))
+
+accepted_done : (w : Filled) → filled_number w ≡ 0 → w ≡ Ok tt
+accepted_done (Ok t) q = refl
+accepted_done (Err fills.BadProfile) q = absurd (omega arith)
+accepted_done (Err fills.WrongLength) q = absurd (omega arith)
+accepted_done (Err fills.BadSpan) q = absurd (omega arith)
+accepted_done (Err fills.NoCodeword) q = absurd (omega arith)
 
 -- so the fill of its run leaves what correcting leaves
 pub fill_by_look : (p : Profile) (y out E : List ℕ) → Bytes y → length out ≡ p.n → E ≡ look_error p y → verdict_number (look_answer p y) ≡ 0
     → fill_by_leaves p y (verdict_start (look_answer p y)) (verdict_length (look_answer p y)) E out ≡ correct_leaves p y out
 fill_by_look p y out E b l e q =
     ap (λ (u : List ℕ). fill_by_leaves p y (verdict_start (look_answer p y)) (verdict_length (look_answer p y)) u out) e ∙ (fills-at_once p y out q).1 ∙ (accepted_look p y out b l q).leaves
+
+-- in the words of correcting: a look that refuses leaves all as it was, and the fill of an accepted one is done
+module _ (p : Profile) (y out : List ℕ) (b : Bytes y) (l : length out ≡ p.n) where
+  pub look_refused : (e : Refusal) → look_answer p y ≡ Err e → (Err e ≡ correct_answer p y out) × (out ≡ correct_leaves p y out)
+  unfolding correct_leaves filled
+  look_refused e a =
+      let q : correct_answer p y out ≡ Err e = sym (same_answer p y out b l) ∙ a in
+      (sym q, ap (filled p y out) (sym q))
+
+  pub look_filled : (k : Correction) (E : List ℕ) → look_answer p y ≡ Ok k → E ≡ look_error p y
+      → (Ok k ≡ correct_answer p y out) × (fill_by_answer p y (correction_start k) (correction_length k) E out ≡ Ok tt)
+      × (fill_by_leaves p y (correction_start k) (correction_length k) E out ≡ correct_leaves p y out)
+  look_filled k E a e =
+      let q : verdict_number (look_answer p y) ≡ 0 = ap verdict_number a in
+      let same = fills-at_once p y out q in
+      let done = accepted_look p y out b l q in
+      let by : (w : Verdict) → look_answer p y ≡ w → (fill_by_answer p y (verdict_start w) (verdict_length w) E out ≡ Ok tt)
+      × (fill_by_leaves p y (verdict_start w) (verdict_length w) E out ≡ correct_leaves p y out) =
+      λ w i. rw (← i, e) (accepted_done _ (ap filled_number same.0 ∙ done.accepted), same.1 ∙ done.leaves) in
+      (sym a ∙ same_answer p y out b l, (by (Ok k) a).0, (by (Ok k) a).1)

@@ -3,6 +3,7 @@
 use mathlib.Core.Path.{◌≡◌, refl, sym, ap, ap₂, subst, ◌∙◌}
 use mathlib.Core.Logic.{◌↔◌, ◌≢◌, ⊎_elim}
 use mathlib.Core.Bool.{Bool, true, false}
+use Rattle.std.specs.Prelude.{Result, Ok, Err, ⊤}
 use mathlib.Core.List.{List}
 use Prim.Native.Nat.{ℕ, ◌≤◌, ◌<◌}
 use native.Mathlib.Omega.{arith}
@@ -10,25 +11,26 @@ use lib.Dec.{eqb}
 use lib.ListN.{length, drop}
 use borrow.Author.Tests.{eq-eqb, eqb-true}
 use Rattle.lists.specs.Choice.{pick, both}
-use Rattle.lists.proofs.Test.{true_or_false, both_true, pick_of}
+use Rattle.lists.proofs.Test.{true_or_false, both_true}
 use Rattle.code.specs.Code.{syndrome, distance}
 use Rattle.code.specs.Run.{changed_in}
 use Rattle.code.proofs.Division.{codeword-syndromes, syndromes-codeword}
 use Rattle.code.proofs.Changed.{changed_inside, one_cell}
 use Rattle.profile.specs.Profile.{InRange, message_length}
 use Rattle.block.specs.Block.{encode, is_clean, verdict, corrected, filled, write_fits, write_answer, write_leaves, check_answer, correct_fits, correct_answer, correct_leaves}
-use Rattle.block.specs.Numbers.{verdict_number, verdict_start, verdict_length, written_number, checked_number, checked_clean}
+use Rattle.block.specs.Numbers.{Verdict, verdict_number, verdict_start, verdict_length, checked_clean}
 use Rattle.block.specs.Runs.{Cells, Word, OneAccepted}
 use Rattle.block.specs.Promises.{WritesCodeword, CleanIff, LentBlock, UncorrectableIff, AmbiguousIff, Corrects, CorrectedIff, SparseIff, ShortExempt, ThreeExempt, CountsAll, HalfPromise, DepthFree, WriteRefusals, CheckRefusals, CorrectRefusals, BlockRefusals}
 use Rattle.profile.specs.declared.Profile.{Profile}
-use Rattle.block.specs.declared.Verdict.{Verdict}
-use Rattle.block.specs.declared.Verdict.TheVariants as verdicts
-use Rattle.block.specs.declared.Written.TheVariants as writes
-use Rattle.block.specs.declared.Checked.{Checked}
-use Rattle.block.specs.declared.Checked.TheVariants as checks
+use Rattle.block.specs.declared.numbers.Correction.TheVariants.{Run}
+use Rattle.block.specs.declared.numbers.Refusal.TheVariants as refusals
+use Rattle.profile.specs.declared.refusals.Refusal.{Refusal as EarlyRefusal}
+use Rattle.profile.specs.declared.refusals.Refusal.TheVariants as early
+use Rattle.profile.specs.Numbers.{refusal_number, early_number}
+use Rattle.answers.proofs.Numbers.{no_place, no_value}
 use Rattle.profile.proofs.Sparse.{short_exempt}
 use Rattle.profile.proofs.Refusing.{refusing_of, same-refusing, early_of, kept_of}
-use Rattle.block.proofs.NumberLaws.{number-3, number-4, number-16, case_of, verdict-0, verdict-late, no_values, not_called}
+use Rattle.block.proofs.NumberLaws.{number-3, number-4, number-16, case_of, verdict-0, verdict-late, no_values}
 use Rattle.block.proofs.Shortest.{clean_word, word_clean}
 use Rattle.block.proofs.Entries.{same-fits}
 use Rattle.block.proofs.Encoding.{encode_message, encode-codeword, same_message}
@@ -43,7 +45,7 @@ writes_codeword p m out v l h e =
     let q : write_leaves p m out ≡ c = block_written p v m out l e in
     let w : Word p c = encode-codeword p.b p.r m h p.n v.r_below (omega (arith, v.r_most)) l in
     record {
-      accepted = ap written_number (write-accepted p v m out l e);
+      accepted = ap early_number (write-accepted p v m out l e);
       word = subst (Word p) (sym q) w;
       message = ap (drop p.r) q ∙ encode_message p.b p.r m;
       only = λ d hd i. same_message p.n p.r p.b d c v.n_most hd w (i ∙ sym (encode_message p.b p.r m)) ∙ sym q;
@@ -65,9 +67,9 @@ module _ (p : Profile) (y : List ℕ) (v : InRange p) (h : Cells p y) where
     λ w. called true (word_clean p y v h w),
   )
 
-  checked_accepted : checked_number (check_answer p y) ≡ 0
+  checked_accepted : early_number (check_answer p y) ≡ 0
   checked_accepted =
-      ⊎_elim (λ t. ap checked_number (block-checked p v y h.count true t)) (λ t. ap checked_number (block-checked p v y h.count false t))
+      ⊎_elim (λ t. ap early_number (block-checked p v y h.count true t)) (λ t. ap early_number (block-checked p v y h.count false t))
       (true_or_false (is_clean p.b p.r y))
 
   flag_else : flag ≢ 1 → flag ≡ 0
@@ -99,19 +101,19 @@ module _ (p : Profile) (y out : List ℕ) (v : InRange p) (h : LentBlock p y out
   is_verdict : answer ≡ verdict p y
   is_verdict = block-answer p v y h.cells.count out h.second
 
-  leaves_word : (s f : ℕ) → verdict p y ≡ verdicts.Corrected s f → correct_leaves p y out ≡ corrected p y
+  leaves_word : (s f : ℕ) → verdict p y ≡ Ok (Run s f) → correct_leaves p y out ≡ corrected p y
   leaves_word s f q = block-leaves p v y h.cells.count out h.second (ap verdict_number q)
 
   corrects_there : (s f : ℕ) (c : List ℕ) → Corrects p y out s f c → OneAccepted p y s f c
   corrects_there s f c k =
       let e : answer ≡ verdict p y = is_verdict in
-      let w : verdict p y ≡ verdicts.Corrected s f = verdict-0 p y (ap verdict_number (sym e) ∙ k.accepted) ∙ ap₂ verdicts.Corrected (ap verdict_start (sym e) ∙ k.start) (ap verdict_length (sym e) ∙ k.size) in
+      let w : verdict p y ≡ Ok (Run s f) = verdict-0 p y (ap verdict_number (sym e) ∙ k.accepted) ∙ ap₂ (λ (i j : ℕ). Ok (Run i j)) (ap verdict_start (sym e) ∙ k.start) (ap verdict_length (sym e) ∙ k.size) in
       (verdict-one p y v h.cells s f c).0 (w, sym (leaves_word s f w) ∙ k.leaves)
 
   corrects_back : (s f : ℕ) (c : List ℕ) → OneAccepted p y s f c → Corrects p y out s f c
   corrects_back s f c o =
       let q = (verdict-one p y v h.cells s f c).1 o in
-      let a : answer ≡ verdicts.Corrected s f = is_verdict ∙ q.0 in
+      let a : answer ≡ Ok (Run s f) = is_verdict ∙ q.0 in
       record { accepted = ap verdict_number a; start = ap verdict_start a; size = ap verdict_length a; leaves = leaves_word s f q.0 ∙ q.1 }
 
 pub uncorrectable_iff : UncorrectableIff
@@ -158,7 +160,7 @@ module _ (p q : Profile) (y out : List ℕ) (v : InRange p) (w : InRange q) (en 
   same_answer : correct_answer p y out ≡ correct_answer q y out
   unfolding correct_answer
   same_answer =
-      same-refusing p q (correct_fits p y out) (correct_fits q y out) verdicts.BadProfile verdicts.WrongLength (verdict p y) (verdict q y) v w
+      same-refusing p q (correct_fits p y out) (correct_fits q y out) (Err refusals.BadProfile) (Err refusals.WrongLength) (verdict p y) (verdict q y) v w
       (same-fits p q y out en) (same-verdict p q y en er eb el)
 
   same_leaves : correct_leaves p y out ≡ correct_leaves q y out
@@ -182,43 +184,37 @@ module _ (p : Profile) (m out : List ℕ) where
   unfolding write_answer write_leaves write_fits
   write_refusals = record {
     early =
-        early_of p (write_fits p m out) _ (two_lengths (length m) (length out) (message_length p) p.n) written_number writes.BadProfile writes.WrongLength writes.Done refl refl
+        early_of {A = Result ⊤ EarlyRefusal} p (write_fits p m out) _ (two_lengths (length m) (length out) (message_length p) p.n) early_number (Err early.BadProfile) (Err early.WrongLength) (Ok tt) refl refl
         (λ q. omega arith) (λ q. omega arith);
-    place = refl;
-    kept = λ n. kept_of p (write_fits p m out) written_number writes.BadProfile writes.WrongLength writes.Done out (encode p.b p.r m) refl n;
+    place = no_place (write_answer p m out);
+    kept = λ n. kept_of {A = Result ⊤ EarlyRefusal} p (write_fits p m out) early_number (Err early.BadProfile) (Err early.WrongLength) (Ok tt) out (encode p.b p.r m) refl n;
   }
 
 module _ (p : Profile) (y : List ℕ) where
-  abbrev result : Checked
-  result = pick (is_clean p.b p.r y) checks.Clean checks.NotClean
-
-  result-0 : checked_number result ≡ 0
-  result-0 = pick_of (λ (w : Checked). checked_number w ≡ 0) (is_clean p.b p.r y) checks.Clean checks.NotClean refl refl
-
   check_refusals : CheckRefusals p y
   unfolding check_answer
   check_refusals = record {
     early =
-        early_of p (eqb (length y) p.n) (length y ≡ p.n) (eqb-true (length y) p.n, eq-eqb (length y) p.n) checked_number checks.BadProfile checks.WrongLength result refl refl
-        (λ q. let z : checked_number result ≡ 0 = result-0 in omega arith) (λ q. let z : checked_number result ≡ 0 = result-0 in omega arith);
-    place = refl;
-    flag = not_called (check_answer p y);
+        early_of {A = Result Bool EarlyRefusal} p (eqb (length y) p.n) (length y ≡ p.n) (eqb-true (length y) p.n, eq-eqb (length y) p.n) early_number (Err early.BadProfile) (Err early.WrongLength)
+        (Ok (is_clean p.b p.r y)) refl refl (λ q. omega arith) (λ q. omega arith);
+    place = no_place (check_answer p y);
+    flag = no_value _ refusal_number (check_answer p y);
   }
 
 module _ (p : Profile) (y out : List ℕ) where
   of_burst : case_of (correct_answer p y out) ≢ 2
   unfolding correct_answer
   of_burst =
-      refusing_of p (correct_fits p y out) verdicts.BadProfile verdicts.WrongLength (verdict p y) (λ (w : Verdict). case_of w ≢ 2) (λ q. omega arith) (λ q. omega arith)
+      refusing_of p (correct_fits p y out) (Err refusals.BadProfile) (Err refusals.WrongLength) (verdict p y) (λ (w : Verdict). case_of w ≢ 2) (λ q. omega arith) (λ q. omega arith)
       (verdict-late p y).burst
 
   correct_refusals : CorrectRefusals p y out
   unfolding correct_answer correct_fits
   correct_refusals = record {
     early =
-        early_of p (correct_fits p y out) _ (two_lengths (length y) (length out) p.n p.n) verdict_number verdicts.BadProfile verdicts.WrongLength (verdict p y) refl refl
+        early_of p (correct_fits p y out) _ (two_lengths (length y) (length out) p.n p.n) verdict_number (Err refusals.BadProfile) (Err refusals.WrongLength) (verdict p y) refl refl
         (verdict-late p y).not_1 (verdict-late p y).not_2;
-    place = refl;
+    place = no_place (correct_answer p y out);
     kept = block-kept p y out;
     run = λ n. let z = no_values (correct_answer p y out) n in (z.start, z.size);
     no_cells = (λ q. of_burst (ap case_of q), λ t j q. of_burst (ap case_of q));

@@ -3,6 +3,7 @@
 use mathlib.Core.Path.{◌≡◌, refl, sym, ap, ◌∙◌, subst}
 use mathlib.Core.Logic.{◌↔◌, ◌≢◌, inl, inr, ⊎_elim}
 use mathlib.Core.Bool.{true, false}
+use Rattle.std.specs.Prelude.{Ok, Err}
 use mathlib.Core.List.{List, []}
 use Prim.Native.Nat.{ℕ, zero, suc, ◌+◌, ◌≤◌, ◌<◌}
 use native.Mathlib.Nat.{eq-or-lt_of_le, min-le_left}
@@ -26,7 +27,8 @@ use Rattle.profile.specs.Profile.{InRange, is_sparse}
 use Rattle.block.specs.Block.{is_clean, run_verdict, decided, judged, verdict}
 use Rattle.block.specs.Runs.{Cells, Word, Reached, Least}
 use Rattle.profile.specs.declared.Profile.{Profile}
-use Rattle.block.specs.declared.Verdict.TheVariants.{Corrected, Sparse}
+use Rattle.block.specs.declared.numbers.Correction.TheVariants.{Run}
+use Rattle.block.specs.declared.numbers.Refusal.TheVariants.{Sparse}
 
 -- a run of no cells reaches the read cells alone
 pub empty_run : (n r b : ℕ) (y : List ℕ) (s : ℕ) (c : List ℕ) → length y ≡ n → Reaches n r b y s 0 c → c ≡ y
@@ -88,10 +90,10 @@ module _ (p : Profile) (y : List ℕ) (v : InRange p) (h : Cells p y) where
   -- ---- the rule on the run that was found
 
   -- the cells of the shifted remainder that are not zero are those that its codeword changes
-  pub ruled_by : (s f : ℕ) (c : List ℕ) → f < p.r → Reached p y s f c → run_verdict p first s f ≡ pick (is_sparse p f (changed_in s f y (word s f))) Sparse (Corrected s f)
+  pub ruled_by : (s f : ℕ) (c : List ℕ) → f < p.r → Reached p y s f c → run_verdict p first s f ≡ pick (is_sparse p f (changed_in s f y (word s f))) (Err Sparse) (Ok (Run s f))
   unfolding run_verdict shifted_remainder
   ruled_by s f c l k =
-      ap (λ (w : ℕ). pick (is_sparse p f w) Sparse (Corrected s f))
+      ap (λ (w : ℕ). pick (is_sparse p f w) (Err Sparse) (Ok (Run s f)))
       (weight-front f (R s) (reach_zero s f c l k) ∙ sym (changed-added s f y (take f (R s)) (few f (R s)) (omega (arith, k.run, h.count))))
     where
       few : (f : ℕ) (l : List ℕ) → length (take f l) ≤ f
@@ -114,7 +116,7 @@ module _ (p : Profile) (y : List ℕ) (v : InRange p) (h : Cells p y) where
       let z = remainder-zero p.r p.b y (omega (arith, v.r_most)) h.bytes (codeword-syndromes p.n p.r p.b y w) in
       eq-eqb (extent first) 0 (omega (arith, extent-least first 0 (λ k _. zero-at first k z)))
 
-  pub clean_verdict : is_clean p.b p.r y ≡ true → verdict p y ≡ Corrected 0 0
+  pub clean_verdict : is_clean p.b p.r y ≡ true → verdict p y ≡ Ok (Run 0 0)
   unfolding is_clean verdict judged
   clean_verdict t = rw t
 

@@ -12,7 +12,7 @@ use lib.ListN.{length, get_or, take, drop, replicate, length-take, length-drop, 
 use lib.Seq.{get_or-take, length-take-le, get_or-append-add, ext_get_or}
 use lib.Bits.{bit_xor}
 use borrow.Rule.Slice.PartMut.{mid_of, put_mid}
-use borrow.Author.Tests.{lt-ltb, le-ltb, le-leb, lt-leb, eq-eqb, ne_eqb, ltb-true, ltb-false}
+use borrow.Author.Tests.{eq-eqb, ne_eqb, ltb-true, ltb-false}
 use Rattle.lists.specs.Choice.{pick}
 use Rattle.lists.proofs.Test.{lt-or_ge, true_or_false, true_false}
 use Rattle.field.specs.Field.{add}
@@ -35,26 +35,9 @@ use Rattle.block.specs.declared.search.Found.{Found}
 
 -- ---- one start
 
-module _ (k : Found) (n s e : ℕ) (rest : Register) (q : e ≡ extent (cells rest)) where
-  pub not_fitting : n < s + e → k ≡ improved_by k n s rest
-  unfolding improved_by
-  not_fitting h = rw (← q, lt-leb _ _ h)
-
-  pub shorter : s + e ≤ n → e < k.size → record { size = e; start = s; again = 0; error = rest } ≡ improved_by k n s rest
-  unfolding improved_by
-  shorter h l = rw (← q, le-leb _ _ h, lt-ltb _ _ l)
-
-  pub longer : s + e ≤ n → k.size < e → k ≡ improved_by k n s rest
-  unfolding improved_by
-  longer h l = rw (← q, le-leb _ _ h, le-ltb e k.size (omega arith), lt-ltb _ _ l)
-
-  pub equal : s + e ≤ n → k.size ≤ e → e ≤ k.size → record { size = k.size; start = k.start; again = 1; error = k.error } ≡ improved_by k n s rest
-  unfolding improved_by
-  equal h l m = rw (← q, le-leb _ _ h, le-ltb e k.size l, le-ltb k.size e m)
-
 -- the state without the error goes as the search's definition says
 tie_cases : (k : Found) (a b : Bool) → ((a ≡ true) × (b ≡ false)) ⊎ ((a ≡ false) × (b ≡ true))
-    → best_of (pick a k (record { size = k.size; start = k.start; again = 1; error = k.error }))
+    → best_of (pick a k (record { size = k.size; start = k.start; again = true; error = k.error }))
     ≡ pick b (record { size = k.size; start = k.start; again = true }) (best_of k)
 tie_cases k true true h = ⊎_elim (λ q. absurd (true_false refl q.1)) (λ q. absurd (true_false refl q.0)) h
 tie_cases k true false h = refl
@@ -91,7 +74,7 @@ module _ (p : Profile) (R : List ℕ) where
   abbrev G : List ℕ
   G = generator p.b p.r
 
-  pub searching-start : (first : Register) (k : Found) → cells first ≡ pad_to 64 R → k ≡ record { size = p.limit + 1; start = 0; again = 0; error = first }
+  pub searching-start : (first : Register) (k : Found) → cells first ≡ pad_to 64 R → k ≡ record { size = p.limit + 1; start = 0; again = false; error = first }
       → Searching p R 0 first k
   unfolding back_steps scanned
   searching-start first k e q = record {

@@ -3,6 +3,7 @@
 use mathlib.Core.Path.{◌≡◌, refl, sym, ap, ap₂, ◌∙◌, subst}
 use mathlib.Core.Logic.{◌↔◌, ◌≢◌, ◌⊎◌, inl, inr, ⊎_elim}
 use mathlib.Core.Bool.{true, false}
+use Rattle.std.specs.Prelude.{Ok, Err}
 use mathlib.Core.List.{List}
 use Prim.Native.Nat.{ℕ, ◌≤◌, ◌<◌, zero-le}
 use native.Mathlib.Nat.{pos_of_ne-zero}
@@ -21,11 +22,11 @@ use Rattle.profile.specs.Profile.{InRange, half, is_sparse}
 use Rattle.profile.proofs.Sparse.{sparse_run_iff, short_exempt, short-run}
 use Rattle.block.specs.Block.{is_clean, run_verdict, decided, judged, verdict, run_word, filled, corrected}
 use Rattle.block.specs.Runs.{Cells, Word, Reached, NoneReached, TwoReached, OneReached, SparseRepair, OneAccepted, OneSparse}
-use Rattle.block.specs.Numbers.{verdict_number}
 use Rattle.block.specs.Promises.{ExactlyOne}
 use Rattle.profile.specs.declared.Profile.{Profile}
-use Rattle.block.specs.declared.Verdict.{Verdict}
-use Rattle.block.specs.declared.Verdict.TheVariants.{BadProfile, WrongLength, Uncorrectable, Ambiguous, Corrected, TooManyErrors, CorrectedCells, Sparse}
+use Rattle.block.specs.Numbers.{Verdict, verdict_number}
+use Rattle.block.specs.declared.numbers.Correction.TheVariants.{Run, Cells as ChangedCells}
+use Rattle.block.specs.declared.numbers.Refusal.TheVariants.{Uncorrectable, Ambiguous, Sparse}
 use Rattle.block.proofs.Shortest.{empty_run, word, first, best, e, scan, reach_word, extent_reach, clean_word, word_clean, clean_verdict, wrong_verdict, reach_start, reach_size, small, best_reach, best-least, ruled_by, at_size, apart}
 
 -- nothing added is the word itself
@@ -38,7 +39,7 @@ pub clean_exempt : (p : Profile) (y c : List ℕ) → SparseRepair p y 0 0 c →
 clean_exempt p y c = short_exempt p 0 (changed_in 0 0 y c) zero-le
 
 -- the codeword of a verdict
-pub corrected-at : (p : Profile) (y : List ℕ) (s f : ℕ) → verdict p y ≡ Corrected s f → corrected p y ≡ added_at s (take f (shifted_remainder p.b p.r s y)) y
+pub corrected-at : (p : Profile) (y : List ℕ) (s f : ℕ) → verdict p y ≡ Ok (Run s f) → corrected p y ≡ added_at s (take f (shifted_remainder p.b p.r s y)) y
 unfolding corrected filled
 corrected-at p y s f q = rw q
 
@@ -77,11 +78,11 @@ module _ (p : Profile) (y : List ℕ) (v : InRange p) (h : Cells p y) where
     abbrev W : ℕ → ℕ → List ℕ
     W = word p y v h
 
-    too_long : p.limit < k.size → verdict p y ≡ Uncorrectable
+    too_long : p.limit < k.size → verdict p y ≡ (Err Uncorrectable)
     unfolding decided
     too_long l = wrong_verdict p y v h t ∙ rw (lt-ltb p.limit k.size l)
 
-    twice : k.size ≤ p.limit → k.again ≡ true → verdict p y ≡ Ambiguous
+    twice : k.size ≤ p.limit → k.again ≡ true → verdict p y ≡ (Err Ambiguous)
     unfolding decided
     twice l a = wrong_verdict p y v h t ∙ rw (le-ltb p.limit k.size l, a)
 
@@ -163,14 +164,14 @@ module _ (p : Profile) (y : List ℕ) (v : InRange p) (h : Cells p y) where
 
   -- and by the rule the block is thin, or mended
   abbrev Ruled : ℕ → ℕ → Type 0
-  Ruled s f = ((verdict p y ≡ Sparse) × SparseRepair p y s f (run_word p y s f)) ⊎ ((verdict p y ≡ Corrected s f) × (SparseRepair p y s f (run_word p y s f) → ⊥))
+  Ruled s f = ((verdict p y ≡ (Err Sparse)) × SparseRepair p y s f (run_word p y s f)) ⊎ ((verdict p y ≡ Ok (Run s f)) × (SparseRepair p y s f (run_word p y s f) → ⊥))
 
-  by_rule : (s f : ℕ) → verdict p y ≡ pick (is_sparse p f (changed_in s f y (run_word p y s f))) Sparse (Corrected s f) → Ruled s f
+  by_rule : (s f : ℕ) → verdict p y ≡ pick (is_sparse p f (changed_in s f y (run_word p y s f))) (Err Sparse) (Ok (Run s f)) → Ruled s f
   by_rule s f q =
       let k = sparse_run_iff p f (changed_in s f y (run_word p y s f)) in
       ⊎_elim (λ t. inl (q ∙ rw t, k.0 t)) (λ t. inr (q ∙ rw t, λ z. true_false (k.1 z) t)) (true_or_false (is_sparse p f (changed_in s f y (run_word p y s f))))
 
-  pub cases : ((verdict p y ≡ Uncorrectable) × NoneReached p y) ⊎ (((verdict p y ≡ Ambiguous) × TwoReached p y) ⊎ ((s f : ℕ) × IsOne s f × Ruled s f))
+  pub cases : ((verdict p y ≡ (Err Uncorrectable)) × NoneReached p y) ⊎ (((verdict p y ≡ (Err Ambiguous)) × TwoReached p y) ⊎ ((s f : ℕ) × IsOne s f × Ruled s f))
   cases =
       ⊎_elim
       (λ t. inr (inr (
@@ -214,14 +215,14 @@ exactly_one p y v h = record {
 clash : {u w z : Verdict} → u ≡ w → u ≡ z → verdict_number w ≢ verdict_number z → ⊥
 clash q e n = n (ap verdict_number (sym q ∙ e))
 
-corrected_inj : {s f a e : ℕ} → ◌≡◌ {A = Verdict} (Corrected s f) (Corrected a e) → (s ≡ a) × (f ≡ e)
+corrected_inj : {s f a e : ℕ} → ◌≡◌ {A = Verdict} (Ok (Run s f)) (Ok (Run a e)) → (s ≡ a) × (f ≡ e)
 corrected_inj q = (cc, cc)
 
 module _ (p : Profile) (y : List ℕ) (v : InRange p) (h : Cells p y) where
   -- what follows from a verdict, case by case
-  from : {A : Type 0} → ((verdict p y ≡ Uncorrectable) → NoneReached p y → A) → ((verdict p y ≡ Ambiguous) → TwoReached p y → A)
-      → ((s f : ℕ) → IsOne p y v h s f → verdict p y ≡ Sparse → SparseRepair p y s f (run_word p y s f) → A)
-      → ((s f : ℕ) → IsOne p y v h s f → verdict p y ≡ Corrected s f → (SparseRepair p y s f (run_word p y s f) → ⊥) → A) → A
+  from : {A : Type 0} → ((verdict p y ≡ (Err Uncorrectable)) → NoneReached p y → A) → ((verdict p y ≡ (Err Ambiguous)) → TwoReached p y → A)
+      → ((s f : ℕ) → IsOne p y v h s f → verdict p y ≡ (Err Sparse) → SparseRepair p y s f (run_word p y s f) → A)
+      → ((s f : ℕ) → IsOne p y v h s f → verdict p y ≡ Ok (Run s f) → (SparseRepair p y s f (run_word p y s f) → ⊥) → A) → A
   from none two sparse one =
       ⊎_elim (λ a. none a.0 a.1)
       (⊎_elim (λ b. two b.0 b.1) (λ c. ⊎_elim (λ k. sparse c.0 c.1 c.2 k.0 k.1) (λ k. one c.0 c.1 c.2 k.0 k.1) c.3))
@@ -231,26 +232,26 @@ module _ (p : Profile) (y : List ℕ) (v : InRange p) (h : Cells p y) where
   moved : {s f a l : ℕ} {c d : List ℕ} → (s ≡ a) × (f ≡ l) × (c ≡ d) → SparseRepair p y s f c → SparseRepair p y a l d
   moved {s} {f} {a} {l} {c} {d} i z = subst (SparseRepair p y a l) i.2 (subst (λ (x : ℕ). SparseRepair p y a x c) i.1 (subst (λ (x : ℕ). SparseRepair p y x f c) i.0 z))
 
-  pub verdict-none : (verdict p y ≡ Uncorrectable) ↔ NoneReached p y
+  pub verdict-none : (verdict p y ≡ (Err Uncorrectable)) ↔ NoneReached p y
   verdict-none = (
     λ q. from (λ e n. n) (λ e z. absurd (clash q e (λ i. omega arith))) (λ s f o e k. absurd (clash q e (λ i. omega arith))) (λ s f o e k. absurd (clash q e (λ i. omega arith))),
     λ n. from (λ e _. e) (λ e z. absurd (none_two p y v h n z)) (λ s f o e k. absurd (none_one p y v h s f _ n o.holds)) (λ s f o e k. absurd (none_one p y v h s f _ n o.holds)),
   )
 
-  pub verdict-two : (verdict p y ≡ Ambiguous) ↔ TwoReached p y
+  pub verdict-two : (verdict p y ≡ (Err Ambiguous)) ↔ TwoReached p y
   verdict-two = (
     λ q. from (λ e n. absurd (clash q e (λ i. omega arith))) (λ e z. z) (λ s f o e k. absurd (clash q e (λ i. omega arith))) (λ s f o e k. absurd (clash q e (λ i. omega arith))),
     λ z. from (λ e n. absurd (none_two p y v h n z)) (λ e _. e) (λ s f o e k. absurd (two_one p y v h s f _ z o.holds)) (λ s f o e k. absurd (two_one p y v h s f _ z o.holds)),
   )
 
-  pub verdict_sparse : (verdict p y ≡ Sparse) ↔ OneSparse p y
+  pub verdict_sparse : (verdict p y ≡ (Err Sparse)) ↔ OneSparse p y
   verdict_sparse = (
     λ q. from (λ e n. absurd (clash q e (λ i. omega arith))) (λ e z. absurd (clash q e (λ i. omega arith))) (λ s f o e k. (s, f, run_word p y s f, o.holds, k)) (λ s f o e k. absurd (clash q e (λ i. omega arith))),
     λ z. from (λ e n. absurd (none_one p y v h z.0 z.1 z.2 n z.3)) (λ e t. absurd (two_one p y v h z.0 z.1 z.2 t z.3)) (λ s f o e k. e)
         (λ s f o e k. absurd (k (moved (o.only z.0 z.1 z.2 z.3) z.4))),
   )
 
-  pub verdict-one : (s f : ℕ) (c : List ℕ) → ((verdict p y ≡ Corrected s f) × (corrected p y ≡ c)) ↔ OneAccepted p y s f c
+  pub verdict-one : (s f : ℕ) (c : List ℕ) → ((verdict p y ≡ Ok (Run s f)) × (corrected p y ≡ c)) ↔ OneAccepted p y s f c
   verdict-one s f c = (
     λ q. from (λ e n. absurd (clash q.0 e (λ i. omega arith))) (λ e z. absurd (clash q.0 e (λ i. omega arith))) (λ a l o e k. absurd (clash q.0 e (λ i. omega arith)))
         (λ a l o e k.
@@ -261,7 +262,7 @@ module _ (p : Profile) (y : List ℕ) (v : InRange p) (h : Cells p y) where
         (λ a l o e k. let i = o.only s f c z.0 in absurd (z.1 (moved (sym i.0, sym i.1, sym i.2) k)))
         (λ a l o e k.
         let i = o.only s f c z.0 in
-        (e ∙ ap₂ Corrected (sym i.0) (sym i.1), corrected-at p y a l e ∙ sym i.2)),
+        (e ∙ ap₂ (λ (i j : ℕ). Ok (Run i j)) (sym i.0) (sym i.1), corrected-at p y a l e ∙ sym i.2)),
   )
 
 -- n, r, b and L are all that the verdict and its codeword read of the profile
@@ -272,18 +273,13 @@ module _ (p q : Profile) (y : List ℕ) (en : p.n ≡ q.n) (er : p.r ≡ q.r) (e
 
   pub same-filled : (out : List ℕ) (w : Verdict) → filled p y out w ≡ filled q y out w
   unfolding filled
-  same-filled out (Corrected s f) = rw (er, eb)
-  same-filled out BadProfile = refl
-  same-filled out WrongLength = refl
-  same-filled out Uncorrectable = refl
-  same-filled out Ambiguous = refl
-  same-filled out TooManyErrors = refl
-  same-filled out (CorrectedCells t j) = refl
-  same-filled out Sparse = refl
+  same-filled out (Ok (Run s f)) = rw (er, eb)
+  same-filled out (Ok (ChangedCells t j)) = refl
+  same-filled out (Err e) = refl
 
 -- where L ≥ h, a codeword within a run of at most h cells is the block's: no shorter run reaches another, and the run found is too short for the rule
 pub verdict-half : (p : Profile) (y : List ℕ) (s f : ℕ) (c : List ℕ) → InRange p → Cells p y → half p ≤ p.limit → f ≤ half p → Reached p y s f c
-    → ((a e : ℕ) × (verdict p y ≡ Corrected a e)) × (corrected p y ≡ c)
+    → ((a e : ℕ) × (verdict p y ≡ Ok (Run a e))) × (corrected p y ≡ c)
 verdict-half p y s f c v h l m k =
     let same : (a e : ℕ) (d : List ℕ) → Reached p y a e d → e ≤ f → d ≡ c =
     λ a e d r u. two_runs p.n p.r p.b y a e s f d c v.n_most h.count r k (omega arith) in

@@ -1,6 +1,6 @@
 -- What each entry on a block answers and leaves in its buffers, as equations that compute (clauses B4 to B10, E1 to E5; document 02, Notes 3 and 7). Refusal 1
 -- goes before 2, and 2 before the rest. The verdict reads the cells and n, r, b, L only, and a fill not even L.
-use Rattle.std.specs.Prelude.{Bool, List, [], ◌++◌, ℕ, ◌+◌, eqb, ltb, leb, length, take, replicate}
+use Rattle.std.specs.Prelude.{Bool, Result, Ok, Err, ⊤, List, [], ◌++◌, ℕ, ◌+◌, eqb, ltb, leb, length, take, replicate}
 use Rattle.lists.specs.Choice.{pick, both}
 use Rattle.code.specs.Code.{generator, remainder, weight}
 use Rattle.code.specs.Run.{back_steps, shifted_remainder, added_at}
@@ -8,16 +8,13 @@ use Rattle.code.specs.Search.{Best, extent, extents, scanned}
 use Rattle.words.specs.Cells.{pad_to}
 use Rattle.profile.specs.Profile.{message_length, is_sparse}
 use Rattle.profile.specs.Refusals.{refusing}
-use Rattle.block.specs.Numbers.{verdict_start}
+use Rattle.block.specs.Numbers.{Verdict, Filled, verdict_start}
 use Rattle.profile.specs.declared.Profile.{Profile}
-use Rattle.block.specs.declared.Verdict.{Verdict}
-use Rattle.block.specs.declared.Verdict.TheVariants as verdicts
-use Rattle.block.specs.declared.Written.{Written}
-use Rattle.block.specs.declared.Written.TheVariants as writes
-use Rattle.block.specs.declared.Checked.{Checked}
-use Rattle.block.specs.declared.Checked.TheVariants as checks
-use Rattle.block.specs.declared.Filled.{Filled}
-use Rattle.block.specs.declared.Filled.TheVariants as fills
+use Rattle.profile.specs.declared.refusals.Refusal.{Refusal as EarlyRefusal}
+use Rattle.profile.specs.declared.refusals.Refusal.TheVariants as early
+use Rattle.block.specs.declared.numbers.Correction.TheVariants.{Run, Cells}
+use Rattle.block.specs.declared.numbers.Refusal.TheVariants as refusals
+use Rattle.block.specs.declared.numbers.FillRefusal.TheVariants as fills
 
 -- ---- writing
 
@@ -33,8 +30,8 @@ encode b r m = check_cells b r m ++ m
 unfoldable pub write_fits : Profile → List ℕ → List ℕ → Bool
 write_fits p m out = both (eqb (length m) (message_length p)) (eqb (length out) p.n)
 
-unfoldable pub write_answer : Profile → List ℕ → List ℕ → Written
-write_answer p m out = refusing p (write_fits p m out) writes.BadProfile writes.WrongLength writes.Done
+unfoldable pub write_answer : Profile → List ℕ → List ℕ → Result ⊤ EarlyRefusal
+write_answer p m out = refusing p (write_fits p m out) (Err early.BadProfile) (Err early.WrongLength) (Ok tt)
 
 unfoldable pub write_leaves : Profile → List ℕ → List ℕ → List ℕ
 write_leaves p m out = refusing p (write_fits p m out) out out (encode p.b p.r m)
@@ -50,25 +47,24 @@ read_remainder p y =
 unfoldable pub is_clean : ℕ → ℕ → List ℕ → Bool
 is_clean b r y = eqb (extent (remainder r (generator b r) y)) 0
 
-unfoldable pub check_answer : Profile → List ℕ → Checked
-check_answer p y =
-    refusing p (eqb (length y) p.n) checks.BadProfile checks.WrongLength (pick (is_clean p.b p.r y) checks.Clean checks.NotClean)
+unfoldable pub check_answer : Profile → List ℕ → Result Bool EarlyRefusal
+check_answer p y = refusing p (eqb (length y) p.n) (Err early.BadProfile) (Err early.WrongLength) (Ok (is_clean p.b p.r y))
 
 -- ---- correcting
 
 -- the run (s, f) that was found in a block of which R is the remainder: refused where it is thin, and else the result. Cells of the shifted remainder
 -- at s that are not zero are those that the run's codeword changes
 unfoldable pub run_verdict : Profile → List ℕ → ℕ → ℕ → Verdict
-run_verdict p R s f = pick (is_sparse p f (weight (back_steps s (generator p.b p.r) R))) verdicts.Sparse (verdicts.Corrected s f)
+run_verdict p R s f = pick (is_sparse p f (weight (back_steps s (generator p.b p.r) R))) (Err refusals.Sparse) (Ok (Run s f))
 
 -- what the search found, as a verdict: torn, tied, or the run
 unfoldable pub decided : Profile → List ℕ → Best → Verdict
-decided p R k = pick (ltb p.limit k.size) verdicts.Uncorrectable (pick k.again verdicts.Ambiguous (run_verdict p R k.start k.size))
+decided p R k = pick (ltb p.limit k.size) (Err refusals.Uncorrectable) (pick k.again (Err refusals.Ambiguous) (run_verdict p R k.start k.size))
 
 -- the verdict on a block of which R is the remainder
 unfoldable pub judged : Profile → List ℕ → Verdict
 judged p R =
-    pick (eqb (extent R) 0) (verdicts.Corrected 0 0)
+    pick (eqb (extent R) 0) (Ok (Run 0 0))
     (decided p R (scanned (extents (generator p.b p.r) R) p.n p.limit p.n))
 
 -- the verdict on the n cells y: torn, tied, thin or mended, with "the result s and f"
@@ -81,14 +77,9 @@ run_word p y s f = added_at s (take f (shifted_remainder p.b p.r s y)) y
 
 -- what a verdict writes over the cells of out: the codeword within the run, where there is one
 unfoldable pub filled : Profile → List ℕ → List ℕ → Verdict → List ℕ
-filled p y out (verdicts.Corrected s f) = run_word p y s f
-filled p y out verdicts.BadProfile = out
-filled p y out verdicts.WrongLength = out
-filled p y out verdicts.Uncorrectable = out
-filled p y out verdicts.Ambiguous = out
-filled p y out verdicts.TooManyErrors = out
-filled p y out (verdicts.CorrectedCells count lowest) = out
-filled p y out verdicts.Sparse = out
+filled p y out (Ok (Run s f)) = run_word p y s f
+filled p y out (Ok (Cells count lowest)) = out
+filled p y out (Err refusal) = out
 
 -- the codeword of a corrected block, "its mended cells"
 unfoldable pub corrected : Profile → List ℕ → List ℕ
@@ -99,7 +90,7 @@ unfoldable pub correct_fits : Profile → List ℕ → List ℕ → Bool
 correct_fits p y out = both (eqb (length y) p.n) (eqb (length out) p.n)
 
 unfoldable pub correct_answer : Profile → List ℕ → List ℕ → Verdict
-correct_answer p y out = refusing p (correct_fits p y out) verdicts.BadProfile verdicts.WrongLength (verdict p y)
+correct_answer p y out = refusing p (correct_fits p y out) (Err refusals.BadProfile) (Err refusals.WrongLength) (verdict p y)
 
 unfoldable pub correct_leaves : Profile → List ℕ → List ℕ → List ℕ
 correct_leaves p y out = filled p y out (correct_answer p y out)
@@ -108,7 +99,7 @@ correct_leaves p y out = filled p y out (correct_answer p y out)
 
 -- "a look, which writes nothing and gives the verdict": it is lent the block alone
 unfoldable pub look_answer : Profile → List ℕ → Verdict
-look_answer p y = refusing p (eqb (length y) p.n) verdicts.BadProfile verdicts.WrongLength (verdict p y)
+look_answer p y = refusing p (eqb (length y) p.n) (Err refusals.BadProfile) (Err refusals.WrongLength) (verdict p y)
 
 -- the shifted remainder at the start of the verdict, as the lowest r of 64 cells, for a fill that follows; zeros beside refusals 1 and 2
 unfoldable pub look_error : Profile → List ℕ → List ℕ
@@ -131,14 +122,14 @@ unfoldable pub is_within : Profile → List ℕ → ℕ → ℕ → Bool
 is_within p y s f = leb (extent (shifted_remainder p.b p.r s y)) f
 
 unfoldable pub fill_answer : Profile → List ℕ → ℕ → ℕ → List ℕ → Filled
-fill_answer p y s f out = filling p y s f out (is_within p y s f) fills.BadProfile fills.WrongLength fills.BadSpan fills.NoCodeword fills.Done
+fill_answer p y s f out = filling p y s f out (is_within p y s f) (Err fills.BadProfile) (Err fills.WrongLength) (Err fills.BadSpan) (Err fills.NoCodeword) (Ok tt)
 
 unfoldable pub fill_leaves : Profile → List ℕ → ℕ → ℕ → List ℕ → List ℕ
 fill_leaves p y s f out = filling p y s f out (is_within p y s f) out out out out (run_word p y s f)
 
 -- the same by cells E that are at hand in the place of the shifted remainder
 unfoldable pub fill_by_answer : Profile → List ℕ → ℕ → ℕ → List ℕ → List ℕ → Filled
-fill_by_answer p y s f E out = filling p y s f out (leb (extent E) f) fills.BadProfile fills.WrongLength fills.BadSpan fills.NoCodeword fills.Done
+fill_by_answer p y s f E out = filling p y s f out (leb (extent E) f) (Err fills.BadProfile) (Err fills.WrongLength) (Err fills.BadSpan) (Err fills.NoCodeword) (Ok tt)
 
 unfoldable pub fill_by_leaves : Profile → List ℕ → ℕ → ℕ → List ℕ → List ℕ → List ℕ
 fill_by_leaves p y s f E out = filling p y s f out (leb (extent E) f) out out out out (added_at s (take f E) y)

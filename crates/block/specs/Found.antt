@@ -1,7 +1,7 @@
 -- What the block's private functions say of the generator and of the search's state. No promise cites this.
-use Rattle.std.specs.Prelude.{◌≡◌, List, ℕ, ◌+◌, eqb, ltb, leb, length, take, replicate}
+use Rattle.std.specs.Prelude.{◌≡◌, Ok, Err, List, ℕ, ◌+◌, true, false, eqb, ltb, leb, length, take, replicate}
 use Rattle.lists.specs.Choice.{pick}
-use Rattle.code.specs.Code.{generator}
+use Rattle.code.specs.Code.{generator, weight}
 use Rattle.code.specs.Run.{back_steps, shifted_remainder}
 use Rattle.profile.specs.Refusals.{refusing}
 use Rattle.code.specs.Search.{Best, extent, extents, scanned}
@@ -13,7 +13,10 @@ use Rattle.profile.specs.declared.Profile.{Profile}
 use Rattle.block.specs.declared.search.Found.{Found}
 use Rattle.block.specs.declared.Judgement.{Judgement}
 use Rattle.block.specs.Block.{judged}
-use Rattle.block.specs.Numbers.{verdict_start}
+use Rattle.profile.specs.Profile.{is_sparse}
+use Rattle.block.specs.declared.numbers.Correction.TheVariants.{Run}
+use Rattle.block.specs.declared.numbers.Refusal.TheVariants.{Uncorrectable, Ambiguous, Sparse}
+use Rattle.block.specs.Numbers.{Verdict, verdict_start}
 
 -- the low r cells of the generator as the highest of 64
 abbrev pub generator_on_top : Profile → List ℕ
@@ -21,14 +24,14 @@ generator_on_top p = on_top p.r (take p.r (generator p.b p.r))
 
 -- the search's state without the shifted remainder
 abbrev pub best_of : Found → Best
-best_of k = record { size = k.size; start = k.start; again = eqb k.again 1 }
+best_of k = record { size = k.size; start = k.start; again = k.again }
 
 -- the state after one more start, whose shifted remainder is rest
 unfoldable pub improved_by : Found → ℕ → ℕ → Register → Found
 improved_by k n s rest =
     pick (leb (s + extent (cells rest)) n)
-    (pick (ltb (extent (cells rest)) k.size) (record { size = extent (cells rest); start = s; again = 0; error = rest })
-    (pick (ltb k.size (extent (cells rest))) k (record { size = k.size; start = k.start; again = 1; error = k.error })))
+    (pick (ltb (extent (cells rest)) k.size) (record { size = extent (cells rest); start = s; again = false; error = rest })
+    (pick (ltb k.size (extent (cells rest))) k (record { size = k.size; start = k.start; again = true; error = k.error })))
     k
 
 -- the state before start s of a block whose remainder is R: rest is the shifted remainder there
@@ -41,6 +44,12 @@ pub record Searching (p : Profile) (R : List ℕ) (s : ℕ) (rest : Register) (k
 pub record Searched (p : Profile) (R : List ℕ) (k : Found) : Type 0 where
   pub best : best_of k ≡ scanned (extents (generator p.b p.r) R) p.n p.limit p.n
   pub error : cells k.error ≡ pad_to 64 (back_steps k.start (generator p.b p.r) R)
+
+-- the verdict on a block that is not clean, by the state after all starts
+unfoldable pub decided_by : Profile → Found → Verdict
+decided_by p k =
+    pick (ltb p.limit k.size) (Err Uncorrectable)
+    (pick k.again (Err Ambiguous) (pick (is_sparse p k.size (weight (cells k.error))) (Err Sparse) (Ok (Run k.start k.size))))
 
 -- what is judged of a block whose remainder is R: the verdict, and the shifted remainder at its start
 pub record JudgedFrom (p : Profile) (R : List ℕ) (z : Judgement) : Type 0 where

@@ -1,7 +1,7 @@
 -- The promises on a look and on a fill (document 02, Note 3; N3a to N3d), of what the entries answer and leave, through the documents' numbers. They name no
 -- search: what a run reaches is Runs.antt, and the contracts in src/lib.rt say that the functions answer and leave `look_answer`, `fill_answer` and `fill_leaves`.
 -- proofs/LookAndFill.antt proves each.
-use Rattle.std.specs.Prelude.{◌≡◌, ◌↔◌, ◌≢◌, ◌⊎◌, List, ℕ, ◌+◌, ◌-◌, ◌≤◌, ◌<◌, length}
+use Rattle.std.specs.Prelude.{Ok, Err, ◌≡◌, ◌↔◌, ◌≢◌, ◌⊎◌, List, ℕ, ◌+◌, ◌-◌, ◌≤◌, ◌<◌, length}
 use Rattle.lists.specs.Bytes.{Bytes}
 use Rattle.profile.specs.Profile.{InRange}
 use Rattle.profile.specs.Refusals.{EarlyRefusals}
@@ -10,7 +10,8 @@ use Rattle.block.specs.Numbers.{verdict_number, verdict_place, verdict_start, ve
 use Rattle.block.specs.Runs.{Cells, Word, Reached, NoneReached, TwoReached, OneAccepted, OneSparse}
 use Rattle.block.specs.Promises.{LentBlock}
 use Rattle.profile.specs.declared.Profile.{Profile}
-use Rattle.block.specs.declared.Verdict.TheVariants.{TooManyErrors, CorrectedCells}
+use Rattle.block.specs.declared.numbers.Correction.TheVariants.{Cells as ChangedCells}
+use Rattle.block.specs.declared.numbers.Refusal.TheVariants.{TooManyErrors}
 
 -- ---- 1. N3a: "a look, which writes nothing and gives the verdict"
 
@@ -30,7 +31,7 @@ pub record LookRefusals (p : Profile) (y : List ℕ) : Type 0 where
   pub place : verdict_place (look_answer p y) ≡ 0
   pub run : verdict_number (look_answer p y) ≢ 0 → (verdict_start (look_answer p y) ≡ 0) × (verdict_length (look_answer p y) ≡ 0)
   -- never spot mode's cases
-  pub no_cells : (look_answer p y ≢ TooManyErrors) × ((t j : ℕ) → look_answer p y ≢ CorrectedCells t j)
+  pub no_cells : (look_answer p y ≢ Err TooManyErrors) × ((t j : ℕ) → look_answer p y ≢ Ok (ChangedCells t j))
 
 -- ---- 2. N3b: "a fill, which takes a start and length and writes the codeword within that run, or says torn if none is"
 

@@ -1,23 +1,25 @@
 -- The promises on one block, of what the entries answer and leave in their buffers, through document 01's numbers (B4 to B10, E3 to E5; document 02, N7a). They name
 -- no search: what a run reaches is Runs.antt, the numbers are Numbers.antt, and the contracts in src/lib.rt say that the functions answer and
 -- leave `write_answer`, `write_leaves`, `check_answer`, `correct_answer` and `correct_leaves`. proofs/Promises.antt proves each.
-use Rattle.std.specs.Prelude.{◌≡◌, ◌↔◌, ◌≢◌, List, ℕ, ◌≤◌, ◌<◌, length, drop}
+use Rattle.std.specs.Prelude.{Ok, Err, ◌≡◌, ◌↔◌, ◌≢◌, List, ℕ, ◌≤◌, ◌<◌, length, drop}
 use Rattle.lists.specs.Bytes.{Bytes}
 use Rattle.code.specs.Code.{syndrome, distance}
 use Rattle.code.specs.Run.{changed_in}
 use Rattle.profile.specs.Profile.{InRange, message_length, half}
 use Rattle.profile.specs.Refusals.{EarlyRefusals}
+use Rattle.profile.specs.Numbers.{early_number, early_place}
 use Rattle.block.specs.Block.{write_answer, write_leaves, check_answer, correct_answer, correct_leaves}
-use Rattle.block.specs.Numbers.{verdict_number, verdict_place, verdict_start, verdict_length, written_number, written_place, checked_number, checked_place, checked_clean}
+use Rattle.block.specs.Numbers.{verdict_number, verdict_place, verdict_start, verdict_length, checked_clean}
 use Rattle.block.specs.Runs.{Cells, Word, Reached, NoneReached, TwoReached, OneReached, SparseRepair, OneAccepted, OneSparse, OneOfThree}
 use Rattle.profile.specs.declared.Profile.{Profile}
-use Rattle.block.specs.declared.Verdict.TheVariants.{TooManyErrors, CorrectedCells}
+use Rattle.block.specs.declared.numbers.Correction.TheVariants.{Cells as ChangedCells}
+use Rattle.block.specs.declared.numbers.Refusal.TheVariants.{TooManyErrors}
 
 -- ---- 1. B4: the writer
 
 -- a written block holds its message from cell r on, is a codeword, and no other codeword holds that message
 pub record WrittenBlock (p : Profile) (m out : List ℕ) : Type 0 where
-  pub accepted : written_number (write_answer p m out) ≡ 0
+  pub accepted : early_number (write_answer p m out) ≡ 0
   pub word : Word p (write_leaves p m out)
   pub message : drop p.r (write_leaves p m out) ≡ m
   pub only : (c : List ℕ) → Word p c → drop p.r c ≡ m → c ≡ write_leaves p m out
@@ -29,7 +31,7 @@ WritesCodeword = (p : Profile) (m out : List ℕ) → InRange p → length m ≡
 
 -- "called clean exactly if all its syndromes are zero", which is exactly when it is a codeword; the flag is 1, and else 0
 pub record CalledClean (p : Profile) (y : List ℕ) : Type 0 where
-  pub accepted : checked_number (check_answer p y) ≡ 0
+  pub accepted : early_number (check_answer p y) ≡ 0
   pub syndromes : (checked_clean (check_answer p y) ≡ 1) ↔ ((i : ℕ) → i < p.r → syndrome p.b i y ≡ 0)
   pub codeword : (checked_clean (check_answer p y) ≡ 1) ↔ Word p y
   pub otherwise : checked_clean (check_answer p y) ≢ 1 → checked_clean (check_answer p y) ≡ 0
@@ -100,14 +102,14 @@ DepthFree = (p q : Profile) (y out : List ℕ) → InRange p → InRange q → p
 
 -- after a refusal the place is 0, "Every lent buffer is unchanged", and the other numbers are 0
 pub record WriteRefusals (p : Profile) (m out : List ℕ) : Type 0 where
-  pub early : EarlyRefusals p ((length m ≡ message_length p) × (length out ≡ p.n)) (written_number (write_answer p m out))
-  pub place : written_place (write_answer p m out) ≡ 0
-  pub kept : written_number (write_answer p m out) ≢ 0 → write_leaves p m out ≡ out
+  pub early : EarlyRefusals p ((length m ≡ message_length p) × (length out ≡ p.n)) (early_number (write_answer p m out))
+  pub place : early_place (write_answer p m out) ≡ 0
+  pub kept : early_number (write_answer p m out) ≢ 0 → write_leaves p m out ≡ out
 
 pub record CheckRefusals (p : Profile) (y : List ℕ) : Type 0 where
-  pub early : EarlyRefusals p (length y ≡ p.n) (checked_number (check_answer p y))
-  pub place : checked_place (check_answer p y) ≡ 0
-  pub flag : checked_number (check_answer p y) ≢ 0 → checked_clean (check_answer p y) ≡ 0
+  pub early : EarlyRefusals p (length y ≡ p.n) (early_number (check_answer p y))
+  pub place : early_place (check_answer p y) ≡ 0
+  pub flag : early_number (check_answer p y) ≢ 0 → checked_clean (check_answer p y) ≡ 0
 
 -- the corrector's 3, 4 and 16 included
 pub record CorrectRefusals (p : Profile) (y out : List ℕ) : Type 0 where
@@ -116,7 +118,7 @@ pub record CorrectRefusals (p : Profile) (y out : List ℕ) : Type 0 where
   pub kept : verdict_number (correct_answer p y out) ≢ 0 → correct_leaves p y out ≡ out
   pub run : verdict_number (correct_answer p y out) ≢ 0 → (verdict_start (correct_answer p y out) ≡ 0) × (verdict_length (correct_answer p y out) ≡ 0)
   -- never spot mode's cases
-  pub no_cells : (correct_answer p y out ≢ TooManyErrors) × ((t j : ℕ) → correct_answer p y out ≢ CorrectedCells t j)
+  pub no_cells : (correct_answer p y out ≢ Err TooManyErrors) × ((t j : ℕ) → correct_answer p y out ≢ Ok (ChangedCells t j))
 
 pub record BlockRefusals (p : Profile) : Type 0 where
   pub writes : (m out : List ℕ) → WriteRefusals p m out

@@ -1,24 +1,21 @@
 // Laying a block's cells into a lent buffer: cells copied, check cells below a message, and read cells with an error added to a part of them.
-ghost use Rattle.std.specs.Prelude.{◌≡◌, ◌++◌, ◌+◌, ◌≤◌, length, take, leb};
+ghost use Rattle.std.specs.Prelude.{◌≡◌, ◌++◌, ◌+◌, ◌≤◌, Ok, Err, length, take, leb};
 ghost use Rattle.code.specs.Poly.{padd};
 ghost use Rattle.code.specs.Run.{added_at};
 ghost use Rattle.code.specs.Search.{extent};
 ghost use Rattle.lists.specs.Choice.{pick};
 ghost use Rattle.register.specs.Words.{cells};
+ghost use Rattle.block.specs.declared.numbers.FillRefusal.TheVariants.{NoCodeword};
 
-use crate::Filled;
+use crate::FillRefusal;
 use register::Register;
 
-// Copies all cells. The loop is the crate's own, so that must-fail edits can try a corrector and a writer that copy nothing, or zeros.
+// Copies all cells. A function of its own, so that must-fail edits can try a corrector and a writer that copy nothing, or zeros.
 pub(crate) fn copy_cells(from: &[u8], to: &mut [u8])
     requires { length to.old ≡ length from.now }
     ensures { to.new ≡ from.now }
 {
-    let mut i = 0;
-    'cells: while i < to.len() {
-        to[i] = from[i];
-        i += 1;
-    }
+    to.copy_from_slice(from);
 }
 
 // The first r of the check cells, and the message above them.
@@ -36,10 +33,8 @@ fn add_error(error: [u8; 64], part: &mut [u8])
     requires { length part.old ≤ 64 }
     ensures { part.new ≡ padd part.old (take (length part.old) error) }
 {
-    let mut i = 0;
-    while i < part.len() {
-        part[i] = part[i] ^ error[i];
-        i += 1;
+    'cells: for (i, cell) in part.iter_mut().enumerate() {
+        *cell ^= error[i];
     }
 }
 
@@ -61,17 +56,17 @@ pub(crate) fn fill_run(
     start: usize,
     size: usize,
     out: &mut [u8],
-) -> Filled
+) -> Result<(), FillRefusal>
     requires out_len { length out.old ≡ length read.now }
     requires size_in_bounds { (start + size ≤ length read.now) × (size ≤ 64) }
-    ensures value { result ≡ pick (leb (extent (cells error)) size) Filled.Done Filled.NoCodeword }
+    ensures value { result ≡ pick (leb (extent (cells error)) size) (Ok tt) (Err NoCodeword) }
     ensures out_after { out.new ≡ pick (leb (extent (cells error)) size) (added_at start (take size (cells error)) read.now) out.old }
 {
     let needed = register::extent(error);
     let is_short = size < needed;
     if is_short {
-        return Filled::NoCodeword;
+        return Err(FillRefusal::NoCodeword);
     }
     place(read, register::low_cells(error), start, size, out);
-    Filled::Done
+    Ok(())
 }

@@ -11,140 +11,52 @@ ghost use Rattle.register.specs.Words.{cells};
 ghost use Rattle.words.specs.Cells.{pad_to};
 ghost use Rattle.profile.specs.Profile.{InRange, is_sparse};
 ghost use Rattle.block.specs.Block.{check_cells, is_span, write_answer, write_leaves, read_remainder, check_answer, correct_answer, correct_leaves, look_answer, look_error, fill_answer, fill_leaves, fill_by_answer, fill_by_leaves};
-ghost use Rattle.block.specs.Found.{generator_on_top, JudgedFrom, shifted_at};
+ghost use Rattle.block.specs.Found.{decided_by, JudgedFrom, shifted_at};
 
+use division::Code;
 use profile::Profile;
 use register::Register;
+use search::Found;
 
+mod division;
 mod lay;
 mod numbers;
 mod search;
 
-/// What correcting a block answers, in every mode. Document 01 calls the cases misprint, wrong frame, torn, tied, and mended (or clean);
-/// `length` cells from `start` on are "the result s and f". `TooManyErrors` and `CorrectedCells` are of document 02, Note 1: spotted, and mended (or clean)
-/// with `count` cells changed, of which `lowest` is the lowest; `correct` and `look` never answer them. `Sparse` is of its Note 7: thin.
-#[derive(Clone, Copy)]
-pub enum Verdict {
-    BadProfile,
-    WrongLength,
-    Uncorrectable,
-    Ambiguous,
-    Corrected { start: usize, length: usize },
-    TooManyErrors,
-    CorrectedCells { count: usize, lowest: usize },
-    Sparse,
-}
-
-/// What writing a block or a sheet answers: misprint, wrong frame, or that it is written.
-#[derive(Clone, Copy)]
-pub enum Written {
-    BadProfile,
-    WrongLength,
-    Done,
-}
-
-/// What checking a block answers: misprint, wrong frame, clean ("called clean exactly if all its syndromes are zero"), or not clean, which is
-/// no refusal.
-#[derive(Clone, Copy)]
-pub enum Checked {
-    BadProfile,
-    WrongLength,
-    Clean,
-    NotClean,
-}
-
-/// What filling a run answers: misprint, wrong frame, bad span (document 02, Note 3), torn, which speaks of that one run only, or that its codeword is written.
-#[derive(Clone, Copy)]
-pub enum Filled {
-    BadProfile,
-    WrongLength,
-    BadSpan,
-    NoCodeword,
-    Done,
-}
+pub use numbers::{Correction, FillRefusal, Refusal};
 
 // ---- writing
 
-// The low r cells of the generator, as the highest of the register.
-fn generator_of(p: Profile) -> Register
-    requires { InRange p }
-    ensures { cells result ≡ generator_on_top p }
-{
-    register::generator_top(p.b, p.r)
-}
-
-// The r check cells of a message, as the lowest of the register.
-fn message_checks(p: Profile, g: Register, message: &[u8]) -> Register
-    requires in_range { InRange p }
-    requires g_value { cells g ≡ generator_on_top p }
-    ensures { cells result ≡ pad_to 64 (check_cells p.b p.r message.now) }
-{
-    register::lowered(register::divide(g, message), p.r)
-}
-
-/// Writes the block of a message: k bytes in, n cells out.
-pub fn write(p: Profile, message: &[u8], cells: &mut [u8]) -> Written
+/// Writes the block of a message: k bytes in, n cells out. Refused are a profile out of range and buffers of other lengths; `cells` is then as it was.
+pub fn write(p: Profile, message: &[u8], cells: &mut [u8]) -> Result<(), profile::Refusal>
     ensures value { result ≡ write_answer p message.now cells.old }
     ensures cells_after { cells.new ≡ write_leaves p message.now cells.old }
 {
-    if !p.in_range() {
-        return Written::BadProfile;
-    }
-    if message.len() != p.message_length() {
-        return Written::WrongLength;
-    }
-    if cells.len() != p.n {
-        return Written::WrongLength;
-    }
-    lay::lay_out(
-        p.r,
-        register::low_cells(message_checks(p, generator_of(p), message)),
-        message,
-        cells,
-    );
-    Written::Done
+    p.admit(message.len() == p.message_length() && cells.len() == p.n)?;
+    let checks = Code::new(p).checks(message);
+    lay::lay_out(p.r, register::low_cells(checks), message, cells);
+    Ok(())
 }
 
 // ---- checking
-
-// The remainder of cells by the generator, as the lowest r cells of the register; fewer than r cells are their own remainder.
-fn remainder_of(p: Profile, g: Register, read: &[u8]) -> Register
-    requires in_range { InRange p }
-    requires g_value { cells g ≡ generator_on_top p }
-    ensures { cells result ≡ pad_to 64 (remainder p.r (generator p.b p.r) read.now) }
-{
-    let low = words::least(p.r, read.len());
-    let checks = message_checks(p, g, &read[low..]);
-    register::add(register::load(&read[..low]), checks)
-}
 
 /// The remainder of a block by the generator, as the lowest r cells of the register; the zero register beside refusals 1 and 2.
 pub fn remainder(p: Profile, read: &[u8]) -> Register
     ensures { cells result ≡ read_remainder p read.now }
 {
-    if !p.in_range() {
-        return register::blank();
+    match p.admit(read.len() == p.n) {
+        Err(_) => register::blank(),
+        Ok(()) => Code::new(p).remainder(read),
     }
-    if read.len() != p.n {
-        return register::blank();
-    }
-    remainder_of(p, generator_of(p), read)
 }
 
-/// Whether a block is a codeword.
-pub fn check(p: Profile, read: &[u8]) -> Checked
+/// Whether a block is clean ("called clean exactly if all its syndromes are zero"), which is where it is a codeword. One that is not clean is no refusal.
+pub fn check(p: Profile, read: &[u8]) -> Result<bool, profile::Refusal>
     ensures { result ≡ check_answer p read.now }
 {
-    if !p.in_range() {
-        return Checked::BadProfile;
-    }
-    if read.len() != p.n {
-        return Checked::WrongLength;
-    }
-    if register::is_zero(remainder_of(p, generator_of(p), read)) {
-        return Checked::Clean;
-    }
-    Checked::NotClean
+    p.admit(read.len() == p.n)?;
+    let rest = Code::new(p).remainder(read);
+    Ok(register::is_zero(rest))
 }
 
 // ---- looking
@@ -152,7 +64,7 @@ pub fn check(p: Profile, read: &[u8]) -> Checked
 /// What a look finds: the verdict, and the shifted remainder at its start, from which the fill of its run is made. A refusal has start 0.
 #[derive(Clone, Copy)]
 pub struct Judgement {
-    pub verdict: Verdict,
+    pub verdict: Result<Correction, Refusal>,
     pub error: Register,
 }
 
@@ -160,55 +72,48 @@ pub struct Judgement {
 fn run_is_sparse(p: Profile, size: usize, error: Register) -> bool
     ensures { result ≡ is_sparse p size (weight (cells error)) }
 {
-    if size <= p.half() {
-        return false;
+    p.half() < size && p.is_sparse(size, register::weight(error))
+}
+
+// The verdict on a block that is not clean, from what the search has found.
+#[tactic(auto, unfolding(crate::specs::Found::decided_by))]
+fn decided(p: Profile, found: Found) -> Result<Correction, Refusal>
+    ensures { result ≡ decided_by p found }
+{
+    let is_torn = p.limit < found.size;
+    if is_torn {
+        return Err(Refusal::Uncorrectable);
     }
-    p.is_sparse(size, register::weight(error))
+    if found.again {
+        return Err(Refusal::Ambiguous);
+    }
+    if run_is_sparse(p, found.size, found.error) {
+        return Err(Refusal::Sparse);
+    }
+    Ok(Correction::Run {
+        start: found.start,
+        length: found.size,
+    })
 }
 
 // The verdict on a block of which `rest` is the remainder.
-fn judge_remainder(p: Profile, g: Register, rest: Register) -> Judgement
-    requires in_range { InRange p }
-    requires g_value { cells g ≡ generator_on_top p }
-    requires zero_from { ZeroFrom p.r (cells rest) }
-    ensures { JudgedFrom p (take p.r (cells rest)) result }
+fn judge_remainder(code: &Code, rest: Register) -> Judgement
+    requires { ZeroFrom code.now.profile.r (cells rest) }
+    ensures { JudgedFrom code.now.profile (take code.now.profile.r (cells rest)) result }
 {
     if register::is_zero(rest) {
-        let clean = Verdict::Corrected {
+        let clean = Correction::Run {
             start: 0,
             length: 0,
         };
         return Judgement {
-            verdict: clean,
+            verdict: Ok(clean),
             error: rest,
         };
     }
-    let found = search::search(p, g, rest);
-    let size = found.size;
-    let start = found.start;
-    let error = found.error;
-    if p.limit < size {
-        return Judgement {
-            verdict: Verdict::Uncorrectable,
-            error: rest,
-        };
-    }
-    if found.again == 1 {
-        return Judgement {
-            verdict: Verdict::Ambiguous,
-            error: rest,
-        };
-    }
-    if run_is_sparse(p, size, error) {
-        return Judgement {
-            verdict: Verdict::Sparse,
-            error: rest,
-        };
-    }
-    let verdict = Verdict::Corrected {
-        start,
-        length: size,
-    };
+    let found = search::search(code, rest);
+    let verdict = decided(code.profile, found);
+    let error = if verdict.is_err() { rest } else { found.error };
     Judgement { verdict, error }
 }
 
@@ -217,24 +122,18 @@ pub fn judge(p: Profile, read: &[u8]) -> Judgement
     ensures verdict_value { result.verdict ≡ look_answer p read.now }
     ensures error_value { cells result.error ≡ look_error p read.now }
 {
-    if !p.in_range() {
+    if let Err(early) = p.admit(read.len() == p.n) {
         return Judgement {
-            verdict: Verdict::BadProfile,
+            verdict: Err(Refusal::from(early)),
             error: register::blank(),
         };
     }
-    if read.len() != p.n {
-        return Judgement {
-            verdict: Verdict::WrongLength,
-            error: register::blank(),
-        };
-    }
-    let g = generator_of(p);
-    judge_remainder(p, g, remainder_of(p, g, read))
+    let code = Code::new(p);
+    judge_remainder(&code, code.remainder(read))
 }
 
 /// Looks at a block of n cells: the verdict that correcting gives. Nothing is written.
-pub fn look(p: Profile, read: &[u8]) -> Verdict
+pub fn look(p: Profile, read: &[u8]) -> Result<Correction, Refusal>
     ensures { result ≡ look_answer p read.now }
 {
     judge(p, read).verdict
@@ -243,29 +142,11 @@ pub fn look(p: Profile, read: &[u8]) -> Verdict
 // ---- filling
 
 // Whether a start and a length are a run of the block, shorter than r. Their sum may be too large for a word, so it is not made.
+#[tactic(auto, unfolding(crate::specs::Block::is_span))]
 fn is_span(p: Profile, start: usize, length: usize) -> bool
     ensures { result ≡ is_span p start length }
 {
-    let n = p.n;
-    if n < start {
-        return false;
-    }
-    if p.r <= length {
-        return false;
-    }
-    length <= n - start
-}
-
-// The shifted remainder at a start: the cells from there on are divided as ever, and those below it backwards.
-fn shifted(p: Profile, g: Register, read: &[u8], start: usize) -> Register
-    requires in_range { InRange p }
-    requires g_value { cells g ≡ generator_on_top p }
-    requires start_in_bounds { start ≤ length read.now }
-    ensures { cells result ≡ pad_to 64 (shifted_remainder p.b p.r start read.now) }
-{
-    let back = register::generator_bottom(g, p.r);
-    let below = register::divide_back(back, &read[..start]);
-    register::add(remainder_of(p, g, &read[start..]), below)
+    start <= p.n && length < p.r && length <= p.n - start
 }
 
 /// Fills a run by a register that is at hand as the shifted remainder at its start, as a look has it.
@@ -276,21 +157,13 @@ pub fn fill_by(
     length: usize,
     error: Register,
     out: &mut [u8],
-) -> Filled
+) -> Result<(), FillRefusal>
     ensures value { result ≡ fill_by_answer p read.now start length (cells error) out.old }
     ensures out_after { out.new ≡ fill_by_leaves p read.now start length (cells error) out.old }
 {
-    if !p.in_range() {
-        return Filled::BadProfile;
-    }
-    if read.len() != p.n {
-        return Filled::WrongLength;
-    }
-    if out.len() != p.n {
-        return Filled::WrongLength;
-    }
+    p.admit(read.len() == p.n && out.len() == p.n)?;
     if !is_span(p, start, length) {
-        return Filled::BadSpan;
+        return Err(FillRefusal::BadSpan);
     }
     lay::fill_run(read, error, start, length, out)
 }
@@ -299,21 +172,21 @@ pub fn fill_by(
 fn shifted_at(p: Profile, read: &[u8], start: usize) -> Register
     ensures { cells result ≡ shifted_at p read.now start }
 {
-    if !p.in_range() {
+    if p.admit(read.len() == p.n).is_err() || p.n < start {
         return register::blank();
     }
-    if read.len() != p.n {
-        return register::blank();
-    }
-    if p.n < start {
-        return register::blank();
-    }
-    shifted(p, generator_of(p), read, start)
+    Code::new(p).shifted(read, start)
 }
 
 /// Fills a run of a block: the codeword that agrees with the n cells read outside the `length` cells from `start` on is written to `out`, n bytes,
 /// where there is one. Else `out` is as it was. The limit has no effect once it is in range.
-pub fn fill(p: Profile, read: &[u8], start: usize, length: usize, out: &mut [u8]) -> Filled
+pub fn fill(
+    p: Profile,
+    read: &[u8],
+    start: usize,
+    length: usize,
+    out: &mut [u8],
+) -> Result<(), FillRefusal>
     ensures value { result ≡ fill_answer p read.now start length out.old }
     ensures out_after { out.new ≡ fill_leaves p read.now start length out.old }
 {
@@ -325,21 +198,13 @@ pub fn fill(p: Profile, read: &[u8], start: usize, length: usize, out: &mut [u8]
 
 /// Corrects a block: n cells read, and the codeword of the shortest run written to `out`, n bytes. It is the look and, where that accepts, the fill of
 /// its run, by the shifted remainder that the look has. Refused blocks leave `out` as it was.
-pub fn correct(p: Profile, read: &[u8], out: &mut [u8]) -> Verdict
+pub fn correct(p: Profile, read: &[u8], out: &mut [u8]) -> Result<Correction, Refusal>
     ensures value { result ≡ correct_answer p read.now out.old }
     ensures out_after { out.new ≡ correct_leaves p read.now out.old }
 {
-    if !p.in_range() {
-        return Verdict::BadProfile;
-    }
-    if out.len() != p.n {
-        return Verdict::WrongLength;
-    }
+    p.admit(read.len() == p.n && out.len() == p.n)?;
     let found = judge(p, read);
-    let verdict = found.verdict;
-    if verdict.number() != 0 {
-        return verdict;
-    }
-    fill_by(p, read, verdict.start(), verdict.length(), found.error, out);
-    verdict
+    let run = found.verdict?;
+    fill_by(p, read, run.start(), run.length(), found.error, out).unwrap();
+    Ok(run)
 }

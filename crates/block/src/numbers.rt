@@ -1,187 +1,139 @@
-// The documents' number, place and values of each answer. Each function is one match, and its contract is the definition of specs/Numbers.antt.
+// What the entries on a block answer, and the documents' number and values of each answer. Each function is one match, and its contract is the definition of
+// specs/Numbers.antt.
 ghost use Rattle.std.specs.Prelude.{◌≡◌};
-ghost use Rattle.block.specs.Numbers.{verdict_number, verdict_place, verdict_start, verdict_length, verdict_count, verdict_lowest, written_number, written_place, checked_number, checked_place, checked_clean, filled_number, filled_place};
+ghost use Rattle.block.specs.Numbers.{correct_refusal_number, fill_refusal_number, correct_early, fill_early, correction_start, correction_length, correction_count, correction_lowest};
 
-use crate::{Checked, Filled, Verdict, Written};
+use answers::Numbered;
 
-impl Verdict {
-    /// 1 to 4, 11 or 16, or 0 for a corrected block.
-    pub fn number(self) -> usize
-        ensures { result ≡ verdict_number self }
-    {
-        match self {
-            Verdict::BadProfile => 1,
-            Verdict::WrongLength => 2,
-            Verdict::Uncorrectable => 3,
-            Verdict::Ambiguous => 4,
-            Verdict::Corrected {
-                start: _,
-                length: _,
-            } => 0,
-            Verdict::TooManyErrors => 11,
-            Verdict::CorrectedCells {
-                count: _,
-                lowest: _,
-            } => 0,
-            Verdict::Sparse => 16,
-        }
-    }
+/// How a block was corrected. By a run (document 01: mended): `length` cells from `start` on are "the result s and f", and a clean block has 0 and 0. Or in cells
+/// anywhere in it (document 02, Note 1: mended): `count` cells, of which `lowest` is the lowest; `correct` and `look` never answer this.
+#[derive(Clone, Copy, Debug, PartialEq, Eq)]
+pub enum Correction {
+    Run { start: usize, length: usize },
+    Cells { count: usize, lowest: usize },
+}
 
-    /// The place of a lone block's refusal is 0.
-    pub fn place(self) -> usize
-        ensures { result ≡ verdict_place self }
-    {
-        0
-    }
+/// Why a block is not corrected. Document 01 calls the cases misprint, wrong frame, torn and tied. `TooManyErrors` is of document 02, Note 1: spotted; `correct` and
+/// `look` never answer it. `Sparse` is of its Note 7: thin.
+#[derive(Clone, Copy, Debug, PartialEq, Eq)]
+pub enum Refusal {
+    BadProfile,
+    WrongLength,
+    Uncorrectable,
+    Ambiguous,
+    TooManyErrors,
+    Sparse,
+}
 
-    /// The start of a corrected block's run; 0 beside any other answer.
+/// Why a run is not filled: misprint, wrong frame, bad span (document 02, Note 3), or torn, which speaks of that one run only.
+#[derive(Clone, Copy, Debug, PartialEq, Eq)]
+pub enum FillRefusal {
+    BadProfile,
+    WrongLength,
+    BadSpan,
+    NoCodeword,
+}
+
+impl Correction {
+    /// The start of the run; 0 where it is none.
     pub fn start(self) -> usize
-        ensures { result ≡ verdict_start self }
+        ensures { result ≡ correction_start self }
     {
         match self {
-            Verdict::Corrected { start, length: _ } => start,
-            Verdict::BadProfile => 0,
-            Verdict::WrongLength => 0,
-            Verdict::Uncorrectable => 0,
-            Verdict::Ambiguous => 0,
-            Verdict::TooManyErrors => 0,
-            Verdict::CorrectedCells {
-                count: _,
-                lowest: _,
-            } => 0,
-            Verdict::Sparse => 0,
+            Correction::Run { start, .. } => start,
+            Correction::Cells { .. } => 0,
         }
     }
 
-    /// The length of a corrected block's run; 0 beside any other answer.
+    /// The length of the run; 0 where it is none.
     pub fn length(self) -> usize
-        ensures { result ≡ verdict_length self }
+        ensures { result ≡ correction_length self }
     {
         match self {
-            Verdict::Corrected { start: _, length } => length,
-            Verdict::BadProfile => 0,
-            Verdict::WrongLength => 0,
-            Verdict::Uncorrectable => 0,
-            Verdict::Ambiguous => 0,
-            Verdict::TooManyErrors => 0,
-            Verdict::CorrectedCells {
-                count: _,
-                lowest: _,
-            } => 0,
-            Verdict::Sparse => 0,
+            Correction::Run { length, .. } => length,
+            Correction::Cells { .. } => 0,
         }
     }
 
-    /// The number of cells changed, where cells anywhere in the block may change; 0 beside any other answer.
+    /// The number of cells changed, where cells anywhere in the block may change; else 0.
     pub fn count(self) -> usize
-        ensures { result ≡ verdict_count self }
+        ensures { result ≡ correction_count self }
     {
         match self {
-            Verdict::CorrectedCells { count, lowest: _ } => count,
-            Verdict::BadProfile => 0,
-            Verdict::WrongLength => 0,
-            Verdict::Uncorrectable => 0,
-            Verdict::Ambiguous => 0,
-            Verdict::Corrected {
-                start: _,
-                length: _,
-            } => 0,
-            Verdict::TooManyErrors => 0,
-            Verdict::Sparse => 0,
+            Correction::Run { .. } => 0,
+            Correction::Cells { count, .. } => count,
         }
     }
 
-    /// The lowest of these cells; 0 where none is changed, and beside any other answer.
+    /// The lowest of these cells; 0 where none is changed.
     pub fn lowest(self) -> usize
-        ensures { result ≡ verdict_lowest self }
+        ensures { result ≡ correction_lowest self }
     {
         match self {
-            Verdict::CorrectedCells { count: _, lowest } => lowest,
-            Verdict::BadProfile => 0,
-            Verdict::WrongLength => 0,
-            Verdict::Uncorrectable => 0,
-            Verdict::Ambiguous => 0,
-            Verdict::Corrected {
-                start: _,
-                length: _,
-            } => 0,
-            Verdict::TooManyErrors => 0,
-            Verdict::Sparse => 0,
+            Correction::Run { .. } => 0,
+            Correction::Cells { lowest, .. } => lowest,
         }
     }
 }
 
-impl Written {
-    /// 1, 2, or 0 for what is written.
-    pub fn number(self) -> usize
-        ensures { result ≡ written_number self }
-    {
+impl From<profile::Refusal> for Refusal {
+    ghost from_gives = { λ early e. e ≡ correct_early early };
+
+    fn from(early: profile::Refusal) -> Refusal {
+        match early {
+            profile::Refusal::BadProfile => Refusal::BadProfile,
+            profile::Refusal::WrongLength => Refusal::WrongLength,
+        }
+    }
+}
+
+impl From<profile::Refusal> for FillRefusal {
+    ghost from_gives = { λ early e. e ≡ fill_early early };
+
+    fn from(early: profile::Refusal) -> FillRefusal {
+        match early {
+            profile::Refusal::BadProfile => FillRefusal::BadProfile,
+            profile::Refusal::WrongLength => FillRefusal::WrongLength,
+        }
+    }
+}
+
+impl Numbered for Refusal {
+    ghost number_of = { correct_refusal_number };
+
+    ghost place_of = { λ _. 0 };
+
+    fn number(&self) -> u8 {
         match self {
-            Written::BadProfile => 1,
-            Written::WrongLength => 2,
-            Written::Done => 0,
+            Refusal::BadProfile => 1,
+            Refusal::WrongLength => 2,
+            Refusal::Uncorrectable => 3,
+            Refusal::Ambiguous => 4,
+            Refusal::TooManyErrors => 11,
+            Refusal::Sparse => 16,
         }
     }
 
-    /// The place of refusals 1 and 2 is 0.
-    pub fn place(self) -> usize
-        ensures { result ≡ written_place self }
-    {
+    fn place(&self) -> usize {
         0
     }
 }
 
-impl Checked {
-    /// 1, 2, or 0 for a block that was checked, clean or not.
-    pub fn number(self) -> usize
-        ensures { result ≡ checked_number self }
-    {
+impl Numbered for FillRefusal {
+    ghost number_of = { fill_refusal_number };
+
+    ghost place_of = { λ _. 0 };
+
+    fn number(&self) -> u8 {
         match self {
-            Checked::BadProfile => 1,
-            Checked::WrongLength => 2,
-            Checked::Clean => 0,
-            Checked::NotClean => 0,
+            FillRefusal::BadProfile => 1,
+            FillRefusal::WrongLength => 2,
+            FillRefusal::BadSpan => 12,
+            FillRefusal::NoCodeword => 3,
         }
     }
 
-    /// The place of refusals 1 and 2 is 0.
-    pub fn place(self) -> usize
-        ensures { result ≡ checked_place self }
-    {
-        0
-    }
-
-    /// 1 for a clean block; 0 for another, and beside a refusal.
-    pub fn clean(self) -> usize
-        ensures { result ≡ checked_clean self }
-    {
-        match self {
-            Checked::Clean => 1,
-            Checked::NotClean => 0,
-            Checked::BadProfile => 0,
-            Checked::WrongLength => 0,
-        }
-    }
-}
-
-impl Filled {
-    /// 1, 2, 12, 3, or 0 for a run that is filled.
-    pub fn number(self) -> usize
-        ensures { result ≡ filled_number self }
-    {
-        match self {
-            Filled::BadProfile => 1,
-            Filled::WrongLength => 2,
-            Filled::BadSpan => 12,
-            Filled::NoCodeword => 3,
-            Filled::Done => 0,
-        }
-    }
-
-    /// The place of a lone block's refusal is 0.
-    pub fn place(self) -> usize
-        ensures { result ≡ filled_place self }
-    {
+    fn place(&self) -> usize {
         0
     }
 }

@@ -1,10 +1,11 @@
 -- Pairs laid into a buffer one behind the other: what a run that is written adds, and where the two numbers of a pair stand.
 use mathlib.Core.Path.{◌≡◌, refl, sym, ap, ap₂, ◌∙◌}
 use mathlib.Core.List.{List, [], ◌∷◌, ◌++◌, append-nil, append_assoc}
-use Prim.Native.Nat.{ℕ, zero, suc, ◌+◌, ◌*◌, ◌≤◌, ◌<◌}
+use Prim.Native.Nat.{ℕ, zero, suc, ◌+◌, ◌-◌, ◌*◌, ◌≤◌, ◌<◌}
 use native.Mathlib.Nat.{le_of_suc-le-suc, not-suc-le-zero}
 use native.Mathlib.Omega.{arith}
-use lib.ListN.{length, get_or, set, take, drop, length-append, length-drop, take-append-drop}
+use borrow.Rule.Slice.PartMut.{put_mid, Post-is}
+use lib.ListN.{length, get_or, take, drop, length-append, length-drop, take-append-drop}
 use lib.Seq.{length-take-le, take_at, drop_at, drop-drop, drop-append-add}
 use Rattle.candidates.specs.Candidates.{Run, pair_bytes, laid_behind}
 
@@ -77,22 +78,11 @@ module _ (k : ℕ) (out : List ℕ) where
 
 -- ---- one run
 
-set-two : (n : ℕ) (out : List ℕ) (a b : ℕ) → n + 2 ≤ length out → set (set out n a) (n + 1) b ≡ take n out ++ a ∷ b ∷ drop (n + 2) out
-set-two zero [] a b h = absurd (omega arith)
-set-two zero (x ∷ []) a b h = absurd (omega arith)
-set-two zero (x ∷ y ∷ out) a b h = refl
-set-two (suc n) [] a b h = absurd (omega arith)
-set-two (suc n) (x ∷ out) a b h =
-    let e : suc n + 1 ≡ suc (n + 1) = omega arith in
-    let f : suc n + 2 ≡ suc (n + 2) = omega arith in
-    ap (λ (j : ℕ). set (set (x ∷ out) (suc n) a) j b) e
-    ∙ ap (λ (u : List ℕ). x ∷ u) (set-two n out a b (omega arith))
-    ∙ ap (λ (j : ℕ). x ∷ (take n out ++ a ∷ b ∷ drop j (x ∷ out))) (sym f)
-
-pub put_law : (k start size : ℕ) (out : List ℕ) → 2 * (k + 1) ≤ length out
-    → set (set out (2 * k) start) (2 * k + 1) size ≡ laid_behind k (record { start = start; size = size } ∷ []) out
+-- the two bytes of a run, put behind the first k pairs
+pub put_law : (k start size : ℕ) (out bytes : List ℕ) → bytes ≡ start ∷ size ∷ []
+    → put_mid (2 * k) (2 * k + 2 - 2 * k) out bytes ≡ laid_behind k (record { start = start; size = size } ∷ []) out
 unfolding laid_behind pair_bytes
-put_law k start size out h =
-    let e : 2 * k + 2 ≡ 2 * (k + 1) = omega arith in
-    set-two (2 * k) out start size (omega arith) ∙ ap (λ (j : ℕ). take (2 * k) out ++ start ∷ size ∷ drop j out) e
+put_law k start size out bytes e =
+    let f : 2 * k + 2 ≡ 2 * (k + 1) = omega arith in
+    ap₂ (λ (u v : List ℕ). take (2 * k) out ++ (u ++ v)) e (Post-is (2 * k) (2 * k + 2) out (omega arith) ∙ ap (λ (j : ℕ). drop j out) f)
     ∙ sym (append_assoc (take (2 * k) out) (start ∷ size ∷ []) (drop (2 * (k + 1)) out))

@@ -1,6 +1,7 @@
 -- What stands in the list of a block, in its order: exactly the tight runs of codewords. An entry of the buffer is an entry of the list.
 use mathlib.Core.Path.{◌≡◌, sym, ap, ap₂, ◌∙◌, subst}
 use mathlib.Core.Logic.{◌≢◌, ⊎_elim}
+use Rattle.std.specs.Prelude.{Ok}
 use mathlib.Core.Bool.{true, false}
 use mathlib.Core.List.{List}
 use Prim.Native.Nat.{ℕ, zero, suc, ◌+◌, ◌*◌, ◌≤◌, ◌<◌}
@@ -15,7 +16,6 @@ use Rattle.profile.specs.declared.Profile.{Profile}
 use Rattle.block.proofs.Shortest.{word}
 use Rattle.candidates.specs.Candidates.{Run, candidates, laid_behind, list_answer, list_leaves}
 use Rattle.candidates.specs.Numbers.{listed_count}
-use Rattle.candidates.specs.declared.ListAnswer.TheVariants.{Done}
 use Rattle.candidates.specs.Promises.{TightRun, LentList, Entry, list_count}
 use Rattle.candidates.proofs.Laying.{pair_at}
 use Rattle.candidates.proofs.Lists.{none, Stands, Ordered, length_most, up_to_each, up_to_has, up_to_ordered}
@@ -73,7 +73,7 @@ module _ (p : Profile) (y : List ℕ) (v : InRange p) (h : Cells p y) where
 -- ---- the buffer
 
 module _ (p : Profile) (y out : List ℕ) (v : InRange p) (h : LentList p y out) where
-  done : (list_answer p y out ≡ Done (length (candidates p y))) × (list_leaves p y out ≡ laid_behind 0 (candidates p y) out)
+  done : (list_answer p y out ≡ Ok (length (candidates p y))) × (list_leaves p y out ≡ laid_behind 0 (candidates p y) out)
   done = let d = list_done p y out ((in_range_lem p).1 v) (list_fits_lem p y out h.cells.count h.pairs) in (sym d.0, sym d.1)
 
   pub counts : list_count p y out ≡ length (candidates p y)

@@ -41,9 +41,10 @@ of_length-grows t f s (suc n) h =
     (λ q. omega (arith, of_length-grows t f s n (le_of_suc-le-suc q), one-length t f n)) (eq-or-lt_of_le h)
 
 -- one length more
-pub up_to_next : (t : ℕ → ℕ) (n f : ℕ) → up_to_length t n (f + 1) ≡ up_to_length t n f ++ of_length t (f + 1) n
+pub up_to_next : (t : ℕ → ℕ) (n f : ℕ) → 0 < f → up_to_length t n f ≡ up_to_length t n (f - 1) ++ of_length t f n
 unfolding up_to_length
-up_to_next t n f = rw add-one
+up_to_next t n zero pos = absurd (omega arith)
+up_to_next t n (suc f) pos = let e : suc f - 1 ≡ f = omega arith in rw e
 
 -- the lengths for the starts are all that counts
 of_length-same : (t u : ℕ → ℕ) (f n : ℕ) → ((s : ℕ) → s < n → t s ≡ u s) → of_length t f n ≡ of_length u f n

@@ -1,7 +1,7 @@
 -- The steps of writing the list, over plain values: one start more of a length, and one length more. There is room for each run, since no list has more than starts.
 use mathlib.Core.Path.{◌≡◌, refl, sym, ap, ap₂, ◌∙◌}
 use mathlib.Core.List.{List, [], ◌∷◌, ◌++◌}
-use Prim.Native.Nat.{ℕ, ◌+◌, ◌*◌, ◌≤◌, ◌<◌}
+use Prim.Native.Nat.{ℕ, ◌+◌, ◌-◌, ◌*◌, ◌≤◌, ◌<◌}
 use native.Mathlib.Omega.{arith}
 use lib.ListN.{length, length-append}
 use Rattle.candidates.specs.Candidates.{Run, of_length, up_to_length, laid_behind}
@@ -54,7 +54,7 @@ module _ (t : ℕ → ℕ) (f k : ℕ) (out : List ℕ) where
 
 -- ---- all lengths: the runs of 1 to f cells are written, `count` of them
 
-module _ (t : ℕ → ℕ) (n : ℕ) (out : List ℕ) (room : length out ≡ 2 * n) where
+module _ (t : ℕ → ℕ) (n : ℕ) (out : List ℕ) where
   pub record Wrote (f count : ℕ) (pairs : List ℕ) : Type 0 where
     pub counted : count ≡ length (up_to_length t n f)
     pub written : pairs ≡ laid_behind 0 (up_to_length t n f) out
@@ -63,26 +63,33 @@ module _ (t : ℕ → ℕ) (n : ℕ) (out : List ℕ) (room : length out ≡ 2 *
   unfolding up_to_length
   wrote_none = record { counted = refl; written = sym (laid_none 0 out) }
 
-  fits : (f : ℕ) → 2 * (0 + length (up_to_length t n f)) ≤ length out
-  fits f = omega (arith, length_most t n f)
+  module _ (room : length out ≡ 2 * n) where
+    fits : (f : ℕ) → 2 * (0 + length (up_to_length t n f)) ≤ length out
+    fits f = omega (arith, length_most t n f)
 
-  pub wrote-length : (f count : ℕ) (pairs : List ℕ) → Wrote f count pairs → length pairs ≡ length out
-  wrote-length f count pairs w = ap length w.written ∙ laid-length 0 out (up_to_length t n f) (fits f)
+    -- those of less than f cells are written
+    module _ (f count : ℕ) (pairs : List ℕ) (pos : 0 < f) (w : Wrote (f - 1) count pairs) where
+      abbrev before : List Run
+      before = up_to_length t n (f - 1)
 
-  both_lengths : (f : ℕ) → length (up_to_length t n (f + 1)) ≡ length (up_to_length t n f) + length (of_length t (f + 1) n)
-  both_lengths f = ap length (up_to_next t n f) ∙ length-append (up_to_length t n f) (of_length t (f + 1) n)
+      abbrev now : List Run
+      now = of_length t f n
 
-  module _ (f count : ℕ) (pairs : List ℕ) (w : Wrote f count pairs) where
-    pub wrote_room : 2 * (count + length (of_length t (f + 1) n)) ≤ length pairs
-    wrote_room = omega (arith, fits (f + 1), both_lengths f, w.counted, wrote-length f count pairs w)
+      next : up_to_length t n f ≡ before ++ now
+      next = up_to_next t n f pos
 
-    pub wrote-next : (z : ℕ) (new : List ℕ) → z ≡ count + length (of_length t (f + 1) n) → new ≡ laid_behind count (of_length t (f + 1) n) pairs → Wrote (f + 1) z new
-    wrote-next z new e q =
-        let next : up_to_length t n (f + 1) ≡ up_to_length t n f ++ of_length t (f + 1) n = up_to_next t n f in
-        let few : 2 * (0 + length (up_to_length t n f ++ of_length t (f + 1) n)) ≤ length out = omega (arith, ap length next, fits (f + 1)) in
-        let from : count ≡ 0 + length (up_to_length t n f) = omega (arith, w.counted) in
-        record {
-          counted = omega (arith, both_lengths f, w.counted);
-          written = q ∙ ap₂ (λ (i : ℕ) (u : List ℕ). laid_behind i (of_length t (f + 1) n) u) from w.written ∙ laid_more 0 out (up_to_length t n f) (of_length t (f + 1) n) few
-              ∙ ap (λ (u : List Run). laid_behind 0 u out) (sym next);
-        }
+      both_lengths : length (up_to_length t n f) ≡ length before + length now
+      both_lengths = ap length next ∙ length-append before now
+
+      pub wrote_room : 2 * (count + length (of_length t f n)) ≤ length pairs
+      wrote_room = omega (arith, fits f, both_lengths, w.counted, ap length w.written ∙ laid-length 0 out before (fits (f - 1)))
+
+      pub wrote-next : (z : ℕ) (new : List ℕ) → z ≡ count + length (of_length t f n) → new ≡ laid_behind count (of_length t f n) pairs → Wrote f z new
+      wrote-next z new e q =
+          let few : 2 * (0 + length (before ++ now)) ≤ length out = omega (arith, ap length next, fits f) in
+          let from : count ≡ 0 + length before = omega (arith, w.counted) in
+          record {
+            counted = omega (arith, both_lengths, w.counted);
+            written = q ∙ ap₂ (λ (i : ℕ) (u : List ℕ). laid_behind i now u) from w.written ∙ laid_more 0 out before now few
+                ∙ ap (λ (u : List Run). laid_behind 0 u out) (sym next);
+          }

@@ -1,6 +1,6 @@
 -- What listing a block answers and leaves in its buffer, as equations that compute: for each start the length of the tight run from there, the runs of one
 -- length after another, and the list. What it means is said without them, in Promises.antt.
-use Rattle.std.specs.Prelude.{Bool, List, [], ◌∷◌, ◌++◌, ℕ, zero, suc, ◌+◌, ◌*◌, eqb, ltb, length, get_or, take, drop}
+use Rattle.std.specs.Prelude.{Bool, Result, Ok, Err, List, [], ◌∷◌, ◌++◌, ℕ, zero, suc, ◌+◌, ◌*◌, eqb, ltb, length, get_or, take, drop}
 use Rattle.lists.specs.Choice.{pick, both}
 use Rattle.code.specs.Code.{generator, remainder}
 use Rattle.code.specs.Run.{back_steps}
@@ -8,8 +8,8 @@ use Rattle.code.specs.Search.{extent}
 use Rattle.profile.specs.Refusals.{refusing}
 use Rattle.block.specs.Block.{is_clean}
 use Rattle.profile.specs.declared.Profile.{Profile}
-use Rattle.candidates.specs.declared.ListAnswer.{ListAnswer}
-use Rattle.candidates.specs.declared.ListAnswer.TheVariants as answers
+use Rattle.profile.specs.declared.refusals.Refusal.{Refusal}
+use Rattle.profile.specs.declared.refusals.Refusal.TheVariants.{BadProfile, WrongLength}
 
 -- a run: `size` cells from `start` on
 pub record Run : Type 0 where
@@ -60,8 +60,8 @@ laid_behind k l out = take (2 * k) out ++ pair_bytes l ++ drop (2 * (k + length 
 unfoldable pub list_fits : Profile → List ℕ → List ℕ → Bool
 list_fits p y out = both (eqb (length y) p.n) (eqb (length out) (2 * p.n))
 
-unfoldable pub list_answer : Profile → List ℕ → List ℕ → ListAnswer
-list_answer p y out = refusing p (list_fits p y out) answers.BadProfile answers.WrongLength (answers.Done (length (candidates p y)))
+unfoldable pub list_answer : Profile → List ℕ → List ℕ → Result ℕ Refusal
+list_answer p y out = refusing p (list_fits p y out) (Err BadProfile) (Err WrongLength) (Ok (length (candidates p y)))
 
 unfoldable pub list_leaves : Profile → List ℕ → List ℕ → List ℕ
 list_leaves p y out = refusing p (list_fits p y out) out out (laid_behind 0 (candidates p y) out)

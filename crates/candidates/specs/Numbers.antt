@@ -1,18 +1,8 @@
--- The documents' number and place of what listing answers, and how many runs are listed: 1 misprint, 2 wrong frame, or 0.
-use Rattle.std.specs.Prelude.{ℕ}
-use Rattle.candidates.specs.declared.ListAnswer.{ListAnswer}
-use Rattle.candidates.specs.declared.ListAnswer.TheVariants as answers
-
-abbrev pub listed_number : ListAnswer → ℕ
-listed_number answers.BadProfile = 1
-listed_number answers.WrongLength = 2
-listed_number (answers.Done count) = 0
-
-abbrev pub listed_place : ListAnswer → ℕ
-listed_place answer = 0
+-- How many runs listing a block answers; the number and the place of its refusals, 1 misprint and 2 wrong frame, are those of the profile crate's specs/Numbers.antt.
+use Rattle.std.specs.Prelude.{ℕ, Result}
+use Rattle.answers.specs.Numbers.{value_or_zero}
+use Rattle.profile.specs.declared.refusals.Refusal.{Refusal}
 
 -- 0 beside a refusal
-abbrev pub listed_count : ListAnswer → ℕ
-listed_count (answers.Done count) = count
-listed_count answers.BadProfile = 0
-listed_count answers.WrongLength = 0
+abbrev pub listed_count : Result ℕ Refusal → ℕ
+listed_count answer = value_or_zero (λ n. n) answer

@@ -3,6 +3,7 @@
 -- proofs/Promises.antt proves each.
 use Rattle.std.specs.Prelude.{◌≡◌, ◌↔◌, ◌≢◌, ◌⊎◌, List, ℕ, ◌+◌, ◌-◌, ◌*◌, ◌≤◌, ◌<◌, length, get_or, drop}
 use Rattle.profile.specs.Profile.{InRange}
+use Rattle.profile.specs.Numbers.{early_number, early_place}
 use Rattle.profile.specs.Refusals.{EarlyRefusals}
 use Rattle.block.specs.Block.{look_answer}
 use Rattle.block.specs.Numbers.{verdict_number, verdict_start, verdict_length}
@@ -10,7 +11,7 @@ use Rattle.block.specs.Runs.{Cells, Reached, NoneReached, TwoReached, OneReached
 use Rattle.block.specs.LookAndFill.{Fills}
 use Rattle.profile.specs.declared.Profile.{Profile}
 use Rattle.candidates.specs.Candidates.{list_answer, list_leaves}
-use Rattle.candidates.specs.Numbers.{listed_number, listed_place, listed_count}
+use Rattle.candidates.specs.Numbers.{listed_count}
 
 -- ---- 1. which run stands for a codeword
 
@@ -110,11 +111,11 @@ ListBesideLook = (p : Profile) (y out : List ℕ) → InRange p → LentList p y
 -- ---- 4. of every profile and all buffers: the refusals, and that the buffer is enough
 
 pub record CandidateRefusals (p : Profile) (y out : List ℕ) : Type 0 where
-  pub early : EarlyRefusals p ((length y ≡ p.n) × (length out ≡ 2 * p.n)) (listed_number (list_answer p y out))
+  pub early : EarlyRefusals p ((length y ≡ p.n) × (length out ≡ 2 * p.n)) (early_number (list_answer p y out))
   -- no number but 1 and 2, and an empty list is an answer
-  pub others : listed_number (list_answer p y out) ≢ 1 → listed_number (list_answer p y out) ≢ 2 → listed_number (list_answer p y out) ≡ 0
-  pub place : listed_place (list_answer p y out) ≡ 0
-  pub kept : listed_number (list_answer p y out) ≢ 0 → (list_leaves p y out ≡ out) × (list_count p y out ≡ 0)
+  pub others : early_number (list_answer p y out) ≢ 1 → early_number (list_answer p y out) ≢ 2 → early_number (list_answer p y out) ≡ 0
+  pub place : early_place (list_answer p y out) ≡ 0
+  pub kept : early_number (list_answer p y out) ≢ 0 → (list_leaves p y out ≡ out) × (list_count p y out ≡ 0)
 
 -- no list has more than n runs, so that 2 n bytes hold each; the bytes behind it are as they were
 pub record RoomEnough (p : Profile) (y out : List ℕ) : Type 0 where

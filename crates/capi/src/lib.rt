@@ -7,7 +7,8 @@
 ghost use Rattle.std.specs.Prelude.{◌≡◌};
 ghost use Rattle.profile.specs.Profile.{message_length, half};
 ghost use Rattle.block.specs.Block.{write_answer, write_leaves, check_answer, correct_answer, correct_leaves, look_answer, fill_answer, fill_leaves};
-ghost use Rattle.block.specs.Numbers.{verdict_number, verdict_start, verdict_length, verdict_count, verdict_lowest, written_number, checked_number, checked_clean, filled_number};
+ghost use Rattle.profile.specs.Numbers.{early_number};
+ghost use Rattle.block.specs.Numbers.{verdict_number, verdict_start, verdict_length, verdict_count, verdict_lowest, checked_clean, filled_number};
 ghost use Rattle.spots.specs.Spots.{spot_answer, spot_leaves};
 ghost use Rattle.sheet.specs.declared.Mode.TheVariants.{Burst, Spots};
 ghost use Rattle.sheet.specs.Sheet.{write_sheet_answer, write_sheet_leaves, read_answer, read_scratch, read_payload};
@@ -20,7 +21,11 @@ ghost use Rattle.listing_text.specs.Buffer.{text_in, text_length};
 ghost use Rattle.listing.specs.Listing.{listed};
 ghost use Rattle.capi.specs.Numbers.{profile_of, profile_number, value_or_place};
 
-use numbers::{profile_number, profile_of, value_or_place};
+use answers::Numbered;
+use block::Correction;
+use numbers::profile_of;
+use plot::LineAtFault;
+use profile::Profile;
 use sheet::Mode;
 
 mod numbers;
@@ -47,7 +52,7 @@ pub extern "C" fn tishwabe_profile(
     let p = profile_of(n, r, b, limit, depth);
     *k = p.message_length();
     *h = p.half();
-    profile_number(p)
+    usize::from(!p.in_range())
 }
 
 /// Writes the block of a message.
@@ -61,10 +66,10 @@ pub extern "C" fn tishwabe_write_block(
     message: &[u8],
     cells: &mut [u8],
 ) -> usize
-    ensures value { result ≡ written_number (write_answer (profile_of n r b limit depth) message.now cells.old) }
+    ensures value { result ≡ early_number (write_answer (profile_of n r b limit depth) message.now cells.old) }
     ensures cells_after { cells.new ≡ write_leaves (profile_of n r b limit depth) message.now cells.old }
 {
-    block::write(profile_of(n, r, b, limit, depth), message, cells).number()
+    usize::from(block::write(profile_of(n, r, b, limit, depth), message, cells).number())
 }
 
 /// Whether a block is a codeword: `clean` is 1 or 0.
@@ -78,12 +83,12 @@ pub extern "C" fn tishwabe_check_block(
     read: &[u8],
     clean: &mut usize,
 ) -> usize
-    ensures value { result ≡ checked_number (check_answer (profile_of n r b limit depth) read.now) }
+    ensures value { result ≡ early_number (check_answer (profile_of n r b limit depth) read.now) }
     ensures clean_after { clean.new ≡ checked_clean (check_answer (profile_of n r b limit depth) read.now) }
 {
     let answer = block::check(profile_of(n, r, b, limit, depth), read);
-    *clean = answer.clean();
-    answer.number()
+    *clean = answer.map_or(0, usize::from);
+    usize::from(answer.number())
 }
 
 /// Corrects a block in burst mode: the start and the length of the run.
@@ -105,9 +110,9 @@ pub extern "C" fn tishwabe_correct_block(
     ensures out_after { out.new ≡ correct_leaves (profile_of n r b limit depth) read.now out.old }
 {
     let answer = block::correct(profile_of(n, r, b, limit, depth), read, out);
-    *start = answer.start();
-    *length = answer.length();
-    answer.number()
+    *start = answer.map_or(0, Correction::start);
+    *length = answer.map_or(0, Correction::length);
+    usize::from(answer.number())
 }
 
 /// Looks at a block in burst mode, and writes nothing: the start and the length of the run.
@@ -127,9 +132,9 @@ pub extern "C" fn tishwabe_look_block(
     ensures length_after { length.new ≡ verdict_length (look_answer (profile_of n r b limit depth) read.now) }
 {
     let verdict = block::look(profile_of(n, r, b, limit, depth), read);
-    *start = verdict.start();
-    *length = verdict.length();
-    verdict.number()
+    *start = verdict.map_or(0, Correction::start);
+    *length = verdict.map_or(0, Correction::length);
+    usize::from(verdict.number())
 }
 
 /// Fills a run of a block, whatever the limit is: the codeword within that run goes to `out`.
@@ -148,7 +153,8 @@ pub extern "C" fn tishwabe_fill_block(
     ensures value { result ≡ filled_number (fill_answer (profile_of n r b limit depth) read.now start length out.old) }
     ensures out_after { out.new ≡ fill_leaves (profile_of n r b limit depth) read.now start length out.old }
 {
-    block::fill(profile_of(n, r, b, limit, depth), read, start, length, out).number()
+    let answer = block::fill(profile_of(n, r, b, limit, depth), read, start, length, out);
+    usize::from(answer.number())
 }
 
 /// Corrects a block in spot mode: the number of cells changed and the lowest of them.
@@ -170,9 +176,9 @@ pub extern "C" fn tishwabe_correct_spots(
     ensures out_after { out.new ≡ spot_leaves (profile_of n r b limit depth) read.now out.old }
 {
     let answer = spots::correct(profile_of(n, r, b, limit, depth), read, out);
-    *count = answer.count();
-    *lowest = answer.lowest();
-    answer.number()
+    *count = answer.map_or(0, Correction::count);
+    *lowest = answer.map_or(0, Correction::lowest);
+    usize::from(answer.number())
 }
 
 // ---- sheets
@@ -188,42 +194,32 @@ pub extern "C" fn tishwabe_write_sheet(
     payload: &[u8],
     sheet: &mut [u8],
 ) -> usize
-    ensures value { result ≡ written_number (write_sheet_answer (profile_of n r b limit depth) payload.now sheet.old) }
+    ensures value { result ≡ early_number (write_sheet_answer (profile_of n r b limit depth) payload.now sheet.old) }
     ensures sheet_after { sheet.new ≡ write_sheet_leaves (profile_of n r b limit depth) payload.now sheet.old }
 {
-    sheet::write(profile_of(n, r, b, limit, depth), payload, sheet).number()
+    usize::from(sheet::write(profile_of(n, r, b, limit, depth), payload, sheet).number())
 }
 
 // Reads a sheet in a mode.
 fn read_sheet(
     mode: Mode,
-    n: usize,
-    r: usize,
-    b: usize,
-    limit: usize,
-    depth: usize,
+    p: Profile,
     sheet: &[u8],
     scratch: &mut [u8],
     payload: &mut [u8],
     changed: &mut usize,
     place: &mut usize,
 ) -> usize
-    ensures value { result ≡ reading_number (read_answer mode (profile_of n r b limit depth) sheet.now scratch.old payload.old) }
-    ensures changed_after { changed.new ≡ reading_changed (read_answer mode (profile_of n r b limit depth) sheet.now scratch.old payload.old) }
-    ensures place_after { place.new ≡ reading_place (read_answer mode (profile_of n r b limit depth) sheet.now scratch.old payload.old) }
-    ensures scratch_after { scratch.new ≡ read_scratch mode (profile_of n r b limit depth) sheet.now scratch.old payload.old }
-    ensures payload_after { payload.new ≡ read_payload mode (profile_of n r b limit depth) sheet.now scratch.old payload.old }
+    ensures value { result ≡ reading_number (read_answer mode p sheet.now scratch.old payload.old) }
+    ensures changed_after { changed.new ≡ reading_changed (read_answer mode p sheet.now scratch.old payload.old) }
+    ensures place_after { place.new ≡ reading_place (read_answer mode p sheet.now scratch.old payload.old) }
+    ensures scratch_after { scratch.new ≡ read_scratch mode p sheet.now scratch.old payload.old }
+    ensures payload_after { payload.new ≡ read_payload mode p sheet.now scratch.old payload.old }
 {
-    let answer = sheet::read_in(
-        mode,
-        profile_of(n, r, b, limit, depth),
-        sheet,
-        scratch,
-        payload,
-    );
-    *changed = answer.changed();
+    let answer = sheet::read_in(mode, p, sheet, scratch, payload);
+    *changed = answer.unwrap_or(0);
     *place = answer.place();
-    answer.number()
+    usize::from(answer.number())
 }
 
 /// Reads a sheet in burst mode: the number of blocks changed, or the place of the refusal.
@@ -248,11 +244,7 @@ pub extern "C" fn tishwabe_read_sheet(
 {
     read_sheet(
         Mode::Burst,
-        n,
-        r,
-        b,
-        limit,
-        depth,
+        profile_of(n, r, b, limit, depth),
         sheet,
         scratch,
         payload,
@@ -283,11 +275,7 @@ pub extern "C" fn tishwabe_read_sheet_spots(
 {
     read_sheet(
         Mode::Spots,
-        n,
-        r,
-        b,
-        limit,
-        depth,
+        profile_of(n, r, b, limit, depth),
         sheet,
         scratch,
         payload,
@@ -312,11 +300,10 @@ pub extern "C" fn tishwabe_check_payload(
     ensures line_after { line.new ≡ payload_index (checked payload.now) }
 {
     let answer = plot::check(payload);
-    let number = answer.number() as usize;
-    *place = value_or_place(number, answer.end(), answer.place());
-    *figure = answer.figure() as usize;
+    *place = answer.map_or_else(|refusal| refusal.place(), |end| end.at);
+    *figure = usize::from(answer.figure());
     *line = answer.index();
-    number
+    usize::from(answer.number())
 }
 
 /// Asks for a plot: the record's first byte, or the place of the refusal, and the record's length; and the figure and the index of the line at fault.
@@ -336,12 +323,11 @@ pub extern "C" fn tishwabe_ask(
     ensures line_after { line.new ≡ located_index (located plot payload.now) }
 {
     let found = plot::locate(payload, plot);
-    let number = found.number() as usize;
-    *place = value_or_place(number, found.start(), found.place());
-    *length = found.length();
-    *figure = found.figure() as usize;
+    *place = found.map_or_else(|refusal| refusal.place(), |record| record.start);
+    *length = found.map_or(0, |record| record.length);
+    *figure = usize::from(found.figure());
     *line = found.index();
-    number
+    usize::from(found.number())
 }
 
 /// Adds a plot: the record's first byte, or the place of the refusal; and the figure and the index of the line at fault.
@@ -361,11 +347,10 @@ pub extern "C" fn tishwabe_add(
     ensures payload_after { payload.new ≡ payload_with (record { number = plot; lines = lines.now }) payload.old }
 {
     let answer = plot::add(payload, plot, lines);
-    let number = answer.number() as usize;
-    *place = value_or_place(number, answer.start(), answer.place());
-    *figure = answer.figure() as usize;
+    *place = answer.unwrap_or_else(|refusal| refusal.place());
+    *figure = usize::from(answer.figure());
     *line = answer.index();
-    number
+    usize::from(answer.number())
 }
 
 /// The lister's text for a payload, as far as `text` goes: the number of bytes written.

@@ -6,6 +6,8 @@ ghost use Rattle.stand.specs.Answers.{tract_of, begun_answer, add_answer, add_ta
 ghost use Rattle.stand.specs.Numbers.{answer_number, answer_place, answer_figure, answer_index, total_number, total_trees, per_plot_number, per_plot_quotient, per_plot_remainder};
 ghost use Rattle.capi.specs.Numbers.{unless_refused};
 
+use answers::Numbered;
+use plot::LineAtFault;
 use stand::Tract;
 
 /// Begins a table from a species list: no tree, no payload, no record. After a refusal table and counters are as they were.
@@ -21,16 +23,13 @@ pub extern "C" fn tishwabe_begin_table(
     ensures payloads_after { payloads.new ≡ unless_refused (answer_number (begun_answer species.now)) 0 payloads.old }
     ensures records_after { records.new ≡ unless_refused (answer_number (begun_answer species.now)) 0 records.old }
 {
-    let begun = stand::begin(species);
-    let answer = begun.answer;
-    let number = answer.number() as usize;
-    if number != 0 {
-        return number;
+    let (begun, answer) = stand::begin(species);
+    if answer.is_ok() {
+        *table = stand::empty();
+        *payloads = begun.payloads;
+        *records = begun.records;
     }
-    *table = stand::empty();
-    *payloads = 0;
-    *records = 0;
-    number
+    usize::from(answer.number())
 }
 
 /// Adds a payload to a table: the place of the refusal, and the figure and the index of the line at fault. After a refusal table and counters are as they were.
@@ -53,15 +52,14 @@ pub extern "C" fn tishwabe_add_to_table(
     ensures payloads_after { payloads.new ≡ (add_tract table.old (tract_of species.now payloads.old records.old) payload.now).payloads }
     ensures records_after { records.new ≡ (add_tract table.old (tract_of species.now payloads.old records.old) payload.now).records }
 {
-    let outcome = stand::add(table, Tract::new(species, *payloads, *records), payload);
-    let after = outcome.tract;
-    let answer = outcome.answer;
-    *payloads = after.payloads;
-    *records = after.records;
+    let mut tract = Tract::new(species, *payloads, *records);
+    let answer = stand::add(table, &mut tract, payload);
+    *payloads = tract.payloads;
+    *records = tract.records;
     *place = answer.place();
-    *figure = answer.figure() as usize;
+    *figure = usize::from(answer.figure());
     *line = answer.index();
-    answer.number() as usize
+    usize::from(answer.number())
 }
 
 /// The table's total, the sum of its cells.
@@ -76,9 +74,9 @@ pub extern "C" fn tishwabe_table_total(
     ensures value { result ≡ total_number (total_answer table.now (tract_of species.now payloads records)) }
     ensures total_after { total.new ≡ total_trees (total_answer table.now (tract_of species.now payloads records)) }
 {
-    let answer = stand::total(*table, Tract::new(species, payloads, records));
-    *total = answer.trees();
-    answer.number() as usize
+    let answer = stand::total(table, &Tract::new(species, payloads, records));
+    *total = answer.unwrap_or(0);
+    usize::from(answer.number())
 }
 
 /// Trees per plot: the whole quotient of the total by the number of records, and the exact remainder.
@@ -95,8 +93,8 @@ pub extern "C" fn tishwabe_trees_per_plot(
     ensures quotient_after { quotient.new ≡ per_plot_quotient (per_plot_answer table.now (tract_of species.now payloads records)) }
     ensures remainder_after { remainder.new ≡ per_plot_remainder (per_plot_answer table.now (tract_of species.now payloads records)) }
 {
-    let answer = stand::trees_per_plot(*table, Tract::new(species, payloads, records));
-    *quotient = answer.quotient();
-    *remainder = answer.remainder();
-    answer.number() as usize
+    let answer = stand::trees_per_plot(table, &Tract::new(species, payloads, records));
+    *quotient = answer.map_or(0, |per_plot| per_plot.quotient);
+    *remainder = answer.map_or(0, |per_plot| per_plot.remainder);
+    usize::from(answer.number())
 }

@@ -6,17 +6,10 @@
 
 use std::io;
 
-fn wide(x: u8) -> u64 {
-    x as u64
-}
-
 // The low coefficients, and 1, the highest.
 fn coefficients(rt: &impl Print, low: &[u8]) -> io::Result<()> {
-    let mut i = 0;
-    while i < low.len() {
-        print!(rt; "{}", wide(low[i]))?;
-        rt.write_all(b" ")?;
-        i += 1;
+    for x in low {
+        print!(rt; "{x} ")?;
     }
     rt.write_all(b"1\n")
 }
@@ -29,6 +22,7 @@ fn line(rt: &impl Print, b: usize, r: usize) -> io::Result<()> {
     Ok(())
 }
 
+// A call for each line: tools/no-tables takes a list of so many numbers for a table.
 fn main(rt: HostRuntime) -> io::Result<()> {
     line(&rt, 0, 3)?;
     line(&rt, 0, 2)?;

@@ -6,6 +6,7 @@ use mathlib.Core.Bool.{true}
 use Prim.Native.Nat.{ℕ, zero, suc, ◌*◌, ◌<◌}
 use native.Mathlib.Omega.{arith}
 use lib.ListN.{length, get_or}
+use Rattle.std.specs.Prelude.{Ok}
 use Rattle.field.specs.Field.{add, double, mul_bits, mul, power, squares, inverse}
 use Rattle.code.specs.Poly.{padd, pscale, pmul}
 use Rattle.code.specs.Code.{generator, rem_step, remainder, weight, Codeword}
@@ -13,10 +14,11 @@ use Rattle.code.specs.Run.{Outside, back_step, back_steps, shifted_remainder, ad
 use Rattle.code.specs.Search.{extent, better, scanned, extents}
 use Rattle.profile.specs.Profile.{in_range, message_length, is_sparse}
 use Rattle.block.specs.Block.{check_cells, encode, run_verdict, decided, judged, verdict, filled, corrected, write_answer, write_leaves, correct_answer}
-use Rattle.block.specs.Numbers.{verdict_number, verdict_start, verdict_length, written_number}
+use Rattle.profile.specs.Numbers.{early_number}
+use Rattle.block.specs.Numbers.{verdict_number, verdict_start, verdict_length}
 use Rattle.block.specs.Promises.{Corrects}
 use Rattle.profile.specs.declared.Profile.{Profile}
-use Rattle.block.specs.declared.Verdict.TheVariants.{Corrected}
+use Rattle.block.specs.declared.numbers.Correction.TheVariants.{Run}
 use Rattle.profile.proofs.Ranges.{in_range_lem}
 use Rattle.block.proofs.Answers.{write-accepted, block_written, block-answer, block-leaves}
 use Rattle.sheet.specs.Sheet.{interleave, message_of, written_block, written_sheet, write_sheet_answer, write_sheet_leaves}
@@ -56,22 +58,22 @@ lower_agrees (suc (suc i)) l o = refl
 
 module _ (p : Profile) (t : in_range p ≡ true) where
   module _ (y : List ℕ) (h : length y ≡ p.n) where
-    shows : (s f : ℕ) (c : List ℕ) → verdict p y ≡ Corrected s f → corrected p y ≡ c → (out : List ℕ) → length out ≡ p.n → Corrects p y out s f c
+    shows : (s f : ℕ) (c : List ℕ) → verdict p y ≡ Ok (Run s f) → corrected p y ≡ c → (out : List ℕ) → length out ≡ p.n → Corrects p y out s f c
     shows s f c q e out l =
         let v = (in_range_lem p).0 t in
-        let a : correct_answer p y out ≡ Corrected s f = block-answer p v y h out l ∙ q in
+        let a : correct_answer p y out ≡ Ok (Run s f) = block-answer p v y h out l ∙ q in
         record { accepted = ap verdict_number a; start = ap verdict_start a; size = ap verdict_length a; leaves = block-leaves p v y h out l (ap verdict_number q) ∙ e }
 
     shows_number : (k : ℕ) → verdict_number (verdict p y) ≡ k → (out : List ℕ) → length out ≡ p.n → verdict_number (correct_answer p y out) ≡ k
     shows_number k q out l = ap verdict_number (block-answer p ((in_range_lem p).0 t) y h out l) ∙ q
 
   shows_block : (m c : List ℕ) → length m ≡ message_length p → encode p.b p.r m ≡ c
-      → (out : List ℕ) → length out ≡ p.n → (written_number (write_answer p m out) ≡ 0) × (write_leaves p m out ≡ c)
-  shows_block m c k e out l = let v = (in_range_lem p).0 t in (ap written_number (write-accepted p v m out k l), block_written p v m out k l ∙ e)
+      → (out : List ℕ) → length out ≡ p.n → (early_number (write_answer p m out) ≡ 0) × (write_leaves p m out ≡ c)
+  shows_block m c k e out l = let v = (in_range_lem p).0 t in (ap early_number (write-accepted p v m out k l), block_written p v m out k l ∙ e)
 
   shows_sheet : (m s : List ℕ) → length m ≡ p.depth * message_length p → written_sheet p m ≡ s
-      → (out : List ℕ) → length out ≡ p.depth * p.n → (written_number (write_sheet_answer p m out) ≡ 0) × (write_sheet_leaves p m out ≡ s)
-  shows_sheet m s k e out l = let q = write_rest p m out ((in_range_lem p).0 t) k l in (ap written_number q.0, q.1 ∙ e)
+      → (out : List ℕ) → length out ≡ p.depth * p.n → (early_number (write_sheet_answer p m out) ≡ 0) × (write_sheet_leaves p m out ≡ s)
+  shows_sheet m s k e out l = let q = write_rest p m out ((in_range_lem p).0 t) k l in (ap early_number q.0, q.1 ∙ e)
 
 pub starred_examples : StarredExamples
 unfolding in_range add double mul_bits mul power squares inverse padd pscale pmul generator rem_step remainder back_step back_steps shifted_remainder added_at extent better scanned extents check_cells encode weight is_sparse run_verdict decided judged verdict filled corrected interleave message_of written_block written_sheet

@@ -2,7 +2,8 @@
 -- what comes out; that all hold is one theorem, and it is computed from the definitions.
 use Rattle.std.specs.Prelude.{◌≡◌, List, [], ◌∷◌, ℕ, ◌*◌, length}
 use Rattle.block.specs.Block.{write_answer, write_leaves, correct_answer}
-use Rattle.block.specs.Numbers.{verdict_number, written_number}
+use Rattle.profile.specs.Numbers.{early_number}
+use Rattle.block.specs.Numbers.{verdict_number}
 use Rattle.block.specs.Runs.{Reached}
 use Rattle.block.specs.Promises.{Corrects}
 use Rattle.profile.specs.declared.Profile.{Profile}
@@ -25,8 +26,8 @@ abbrev pub ExampleHolds : Example → Type 0
 ExampleHolds (correcting p y c s f) = (out : List ℕ) → length out ≡ p.n → Corrects p y out s f c
 ExampleHolds (uncorrectable p y) = (out : List ℕ) → length out ≡ p.n → verdict_number (correct_answer p y out) ≡ 3
 ExampleHolds (ambiguous p y f s c t d) = ((out : List ℕ) → length out ≡ p.n → verdict_number (correct_answer p y out) ≡ 4) × Reached p y s f c × Reached p y t f d
-ExampleHolds (writing_block p m c) = (out : List ℕ) → length out ≡ p.n → (written_number (write_answer p m out) ≡ 0) × (write_leaves p m out ≡ c)
-ExampleHolds (writing_sheet p m s) = (out : List ℕ) → length out ≡ p.depth * p.n → (written_number (write_sheet_answer p m out) ≡ 0) × (write_sheet_leaves p m out ≡ s)
+ExampleHolds (writing_block p m c) = (out : List ℕ) → length out ≡ p.n → (early_number (write_answer p m out) ≡ 0) × (write_leaves p m out ≡ c)
+ExampleHolds (writing_sheet p m s) = (out : List ℕ) → length out ≡ p.depth * p.n → (early_number (write_sheet_answer p m out) ≡ 0) × (write_sheet_leaves p m out ≡ s)
 
 -- n=4, r=3, b=0 with a limit and a depth
 abbrev pub small : ℕ → ℕ → Profile

@@ -2,13 +2,13 @@
 -- moved down; the derivative is every second cell.
 use mathlib.Core.Path.{◌≡◌, refl, sym, ap, ap₂, ◌∙◌}
 use mathlib.Core.List.{List, [], ◌∷◌}
-use Prim.Native.Nat.{ℕ, zero, suc, ◌+◌, ◌-◌, ◌≤◌, ◌<◌}
+use Prim.Native.Nat.{ℕ, zero, suc, ◌+◌, ◌≤◌, ◌<◌}
 use native.Mathlib.Nat.{mod-eq_of_lt}
 use native.Mathlib.Numerals.{add-one}
 use native.Mathlib.Omega.{arith}
 use lib.Bits.{bit_and, and_mask, and_zero_r}
 use lib.ListN.{length, get_or, drop, replicate, drop_of_length-le}
-use lib.Seq.{drop-cons, drop-length}
+use lib.Seq.{drop-cons}
 use Rattle.field.specs.Field.{add}
 use Rattle.field.proofs.Product.{mul_comm}
 use Rattle.code.specs.Poly.{padd, pscale}
@@ -28,25 +28,22 @@ use Rattle.erasure.proofs.Fill.{windows-length}
 
 -- ---- the product of (x + X)
 
-pub rooted_none : (p Z N : List ℕ) → Z ≡ replicate 64 0 → N ≡ shift_up 1 Z → N ≡ pad_to 64 (rooted_at (drop (length p) p))
-unfolding rooted_at
-rooted_none p Z N z e =
-    e ∙ ap (shift_up 1) (z ∙ sym (pad_nil 64)) ∙ pad_up 64 1 [] ∙ ap (λ (l : List ℕ). pad_to 64 (rooted_at l)) (sym (drop-length p))
+-- the register has the product of (x + X) for the points p
+abbrev pub Rooted : Register → List ℕ → Type 0
+Rooted r p = cells r ≡ pad_to 64 (rooted_at p)
 
-pub rooted_more : (p C A B N : List ℕ) (i : ℕ) → 0 < i → i ≤ length p → C ≡ pad_to 64 (rooted_at (drop i p)) → A ≡ pscale (get_or p (i - 1) 0) C
-    → B ≡ shift_up 0 C → N ≡ padd A B → N ≡ pad_to 64 (rooted_at (drop (i - 1) p))
-rooted_more p C A B N zero h l ec ea eb en = absurd (omega arith)
-rooted_more p C A B N (suc i) h l ec ea eb en =
-    let e : suc i - 1 ≡ i = omega arith in
-    let x : ℕ = get_or p i 0 in
-    let P : List ℕ = rooted_at (drop (suc i) p) in
-    let a : A ≡ pad_to 64 (pscale x P) = ea ∙ ap₂ (λ (k : ℕ) (u : List ℕ). pscale (get_or p k 0) u) e ec ∙ pad_scale 64 x P in
-    let b : B ≡ pad_to 64 (0 ∷ P) = eb ∙ ap (shift_up 0) ec ∙ pad_up 64 0 P in
-    en ∙ ap₂ padd a b ∙ pad_sum 64 (pscale x P) (0 ∷ P) ∙ ap (pad_to 64) (step x (drop (suc i) p))
-    ∙ ap (λ (l : List ℕ). pad_to 64 (rooted_at l)) (sym (drop-cons p i 0 l) ∙ ap (λ (k : ℕ). drop k p) (sym e))
-  where
-    step : (x : ℕ) (q : List ℕ) → padd (pscale x (rooted_at q)) (0 ∷ rooted_at q) ≡ rooted_at (x ∷ q)
-    step x q = unfold rooted_at in refl
+pub rooted_none : (z r : Register) → cells z ≡ replicate 64 0 → cells r ≡ shift_up 1 (cells z) → Rooted r []
+unfolding rooted_at
+rooted_none z r ez er = er ∙ ap (shift_up 1) (ez ∙ sym (pad_nil 64)) ∙ pad_up 64 1 []
+
+-- a point more
+pub rooted_more : (r a b n : Register) (X : ℕ) (p : List ℕ) → cells a ≡ pscale X (cells r) → cells b ≡ shift_up 0 (cells r) → cells n ≡ padd (cells a) (cells b) → Rooted r p → Rooted n (X ∷ p)
+unfolding rooted_at
+rooted_more r a b n X p ea eb en er =
+    let P : List ℕ = rooted_at p in
+    en
+    ∙ ap₂ padd (ea ∙ ap (pscale X) er ∙ pad_scale 64 X P) (eb ∙ ap (shift_up 0) er ∙ pad_up 64 0 P)
+    ∙ pad_sum 64 (pscale X P) (0 ∷ P)
 
 -- ---- the evaluator
 

@@ -16,9 +16,6 @@ use Rattle.code.proofs.Poly.{tail-length}
 use Rattle.words.specs.Word.{byte, bytes_from}
 use Rattle.words.specs.Cells.{shift_down, pad_to}
 use Rattle.words.proofs.Pad.{pad_same, pad_down, pad_snoc, pad_off}
-use Rattle.register.specs.Words.{cells}
-use Rattle.register.specs.declared.Register.{Register}
-use Rattle.register.proofs.Cells.{cells-length}
 use Rattle.products.specs.Products.{times, dot, evals, powers, listed}
 use Rattle.products.proofs.Values.{Points, points-more, value-at}
 use Rattle.erasure.specs.Filling.{rooted_at, windows, evaluator, even_cells, derivative, quotient_at, value_at, laid_at, filled_at}
@@ -103,14 +100,8 @@ take_min k n s e =
     ⊎_elim (λ l. let q : k ≡ n = omega arith in ap (λ (j : ℕ). take j s) q) (λ l. take_all k s (omega arith) ∙ sym (take_all n s l)) (lt-or_ge n (length s))
 
 -- how many there are
-pub least-length : (k n : ℕ) (s : List ℕ) → k ≡ min (length s) n → k ≡ length (take k s)
+least-length : (k n : ℕ) (s : List ℕ) → k ≡ min (length s) n → k ≡ length (take k s)
 least-length k n s e = omega (arith, length-take k s)
-
-pub places_fit : (n m : ℕ) (E p : List ℕ) → n ≡ min (length p) 63 → m ≡ min (length E) n → (length (take m E) ≤ length (take n p)) × (length (take n p) ≤ 63)
-places_fit n m E p en em = (omega (arith, length-take n p, length-take m E), omega (arith, length-take n p))
-
-pub register_length : (k : ℕ) (x : Register) (s : List ℕ) → k ≤ 63 → s ≡ cells x → k ≡ length (take k s)
-register_length k x s h e = omega (arith, length-take k s, ap length e, cells-length x)
 
 even_pad : (n : ℕ) (l : List ℕ) → even_cells (pad_to n l) ≡ pad_to n (even_cells l)
 unfolding even_cells pad_to

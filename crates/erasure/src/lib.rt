@@ -21,11 +21,9 @@ fn syndrome_words(b: usize, rest: &[u8], count: usize) -> [u64; 8]
 {
     let mut w = [0u64; 8];
     let mut x = products::points_from(b);
-    let mut k: usize = 0;
-    while k < count {
-        w[k] = products::values_at(rest, x);
+    for word in &mut w[..count] {
+        *word = products::values_at(rest, x);
         x = products::next_points(x);
-        k += 1;
     }
     w
 }
@@ -34,13 +32,11 @@ fn syndrome_words(b: usize, rest: &[u8], count: usize) -> [u64; 8]
 pub fn syndromes(b: usize, rest: &[u8]) -> [u8; 64]
     ensures { result ≡ pad_to 64 (syndromes b (min (length rest.now) 64) rest.now) }
 {
-    let n = words::least(rest.len(), 64);
-    let w = syndrome_words(b, rest, (n + 7) / 8);
+    let n = rest.len().min(64);
+    let w = syndrome_words(b, rest, n.div_ceil(8));
     let mut out = [0u8; 64];
-    let mut i: usize = 0;
-    while i < n {
+    for i in 0..n {
         out[i] = words::cell_at(w[i / 8], i % 8);
-        i += 1;
     }
     out
 }
@@ -50,11 +46,8 @@ fn rooted_of(points: &[u8]) -> Register
     ensures { cells result ≡ pad_to 64 (rooted_at points.now) }
 {
     let mut p = register::push_bottom(register::blank(), 1);
-    let mut i = points.len();
-    while 0 < i {
-        i -= 1;
-        let next = register::add(register::scale(points[i], p), register::shift_up(p));
-        p = next;
+    for x in points.iter().rev() {
+        p = register::add(register::scale(*x, p), register::shift_up(p));
     }
     p
 }
@@ -65,13 +58,9 @@ fn evaluator_of(l: Register, s: &[u8]) -> Register
 {
     let mut w = register::blank();
     let mut rest = l;
-    let mut k: usize = 0;
-    while k < s.len() {
-        let sum = register::add(w, register::scale(s[k], rest));
-        w = sum;
-        let next = register::shift_down(rest);
-        rest = next;
-        k += 1;
+    for x in s {
+        w = register::add(w, register::scale(*x, rest));
+        rest = register::shift_down(rest);
     }
     w
 }
@@ -92,47 +81,54 @@ fn derivative_of(l: Register) -> Register
     }
 }
 
-// The values at eight points, from the derivative d and the evaluator w; the inverse is the power 254.
-fn values_of(b: usize, d: &[u8], w: &[u8], x: u64) -> u64
-    ensures { bytes_from 8 0 result ≡ map (quotient_at b d.now w.now) (bytes_from 8 0 x) }
-{
-    let below = products::word_times(products::word_power(x, b), products::values_at(d, x));
-    products::word_times(products::word_power(below, 254), products::values_at(w, x))
-}
-
 // The value is added to the cell at the place, if there is one.
 fn add_at(cells: &mut [u8], place: u8, value: u8)
     ensures { cells.new ≡ set cells.old place (add (get_or cells.old place 0) value) }
 {
-    let m = place as usize;
-    if cells.len() <= m {
-        return;
+    let m = usize::from(place);
+    if m < cells.len() {
+        cells[m] ^= value;
     }
-    cells[m] = cells[m] ^ value;
 }
 
 // The values of a word are added to the cells at the first eight places.
 fn add_values(v: u64, places: &[u8], cells: &mut [u8])
     ensures { cells.new ≡ laid_at places.now (bytes_from 8 0 v) cells.old }
 {
-    let n = words::least(places.len(), 8);
-    let mut i: usize = 0;
-    while i < n {
-        add_at(cells, places[i], words::cell_at(v, i));
-        i += 1;
+    let values = v.to_le_bytes();
+    for (place, value) in places.iter().zip(values.iter()) {
+        add_at(cells, *place, *value);
     }
 }
 
-// The value at each point is added to the cell at its place.
-fn lay(b: usize, d: &[u8], w: &[u8], places: &[u8], points: &[u8], cells: &mut [u8])
-    requires { (length places.now ≤ length points.now) × (length points.now ≤ 63) }
-    ensures { cells.new ≡ laid_at places.now (map (quotient_at b d.now w.now) points.now) cells.old }
-{
-    let mut q: usize = 0;
-    while q < places.len() {
-        let v = values_of(b, d, w, words::load_word(points, q));
-        add_values(v, &places[q..], cells);
-        q += 8;
+// What Forney's formula reads: the power b, the derivative and the evaluator.
+#[derive(Clone, Copy)]
+struct Formula<'a> {
+    b: usize,
+    derivative: &'a [u8],
+    evaluator: &'a [u8],
+}
+
+impl Formula<'_> {
+    // The values at eight points; the inverse is the power 254.
+    fn values_at(&self, x: u64) -> u64
+        ensures { bytes_from 8 0 result ≡ map (quotient_at self.now.b self.now.derivative.now self.now.evaluator.now) (bytes_from 8 0 x) }
+    {
+        let power = products::word_power(x, self.b);
+        let below = products::word_times(power, products::values_at(self.derivative, x));
+        let inverse = products::word_power(below, 254);
+        products::word_times(inverse, products::values_at(self.evaluator, x))
+    }
+
+    // The value at each point is added to the cell at its place.
+    fn lay(&self, places: &[u8], points: &[u8], cells: &mut [u8])
+        requires { length places.now ≤ length points.now }
+        ensures { cells.new ≡ laid_at places.now (map (quotient_at self.now.b self.now.derivative.now self.now.evaluator.now) points.now) cells.old }
+    {
+        for (eight, x) in places.chunks(8).zip(points.chunks(8)) {
+            let v = self.values_at(words::load_word(x, 0));
+            add_values(v, eight, cells);
+        }
     }
 }
 
@@ -140,11 +136,16 @@ fn lay(b: usize, d: &[u8], w: &[u8], places: &[u8], points: &[u8], cells: &mut [
 pub fn fill_places(b: usize, syndromes: &[u8], places: &[u8], points: &[u8], cells: &mut [u8])
     ensures { cells.new ≡ filled_at b syndromes.now places.now points.now cells.old }
 {
-    let n = words::least(points.len(), 63);
-    let m = words::least(places.len(), n);
-    let k = words::least(syndromes.len(), n);
+    let n = points.len().min(63);
+    let m = places.len().min(n);
+    let k = syndromes.len().min(n);
     let l = register::shift_down(rooted_of(&points[..n]));
     let w = register::low_cells(evaluator_of(l, &syndromes[..k]));
     let d = register::low_cells(derivative_of(l));
-    lay(b, &d[..n], &w[..n], &places[..m], &points[..n], cells);
+    let formula = Formula {
+        b,
+        derivative: &d[..n],
+        evaluator: &w[..n],
+    };
+    formula.lay(&places[..m], &points[..n], cells);
 }

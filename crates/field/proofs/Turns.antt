@@ -56,21 +56,25 @@ pub inverse-start : (x : ℕ) → mul 1 (squares 7 x) ≡ inverse x
 unfolding inverse
 inverse-start x = one-mul (inverse x) (inverse-lt x)
 
-pub inverse-turn : (left r s x t u : ℕ) → 0 < left → mul r (squares left s) ≡ inverse x → t ≡ mul s s → u ≡ mul r t → mul u (squares (left - 1) t) ≡ inverse x
+pub inverse-turn : (n r s x t u : ℕ) → n < 7 → mul r (squares (7 - n) s) ≡ inverse x → t ≡ mul s s → u ≡ mul r t → mul u (squares (7 - (n + 1)) t) ≡ inverse x
 unfolding squares
-inverse-turn left r s x t u h e p q =
-    ap (λ (v : ℕ). mul v (squares (left - 1) t)) q
-    ∙ mul_assoc r t (squares (left - 1) t)
-    ∙ ap (λ (v : ℕ). mul r (mul v (squares (left - 1) v))) p
+inverse-turn n r s x t u h e p q =
+    let left : ℕ = 7 - (n + 1) in
+    ap (λ (v : ℕ). mul v (squares left t)) q
+    ∙ mul_assoc r t (squares left t)
+    ∙ ap (λ (v : ℕ). mul r (mul v (squares left v))) p
     ∙ ap (λ (k : ℕ). mul r (squares k s)) next
     ∙ e
   where
-    next : suc (left - 1) ≡ left
+    next : suc (7 - (n + 1)) ≡ 7 - n
     next = omega arith
 
-pub inverse-end : (left r s x : ℕ) → r < 256 → left ≡ 0 → mul r (squares left s) ≡ inverse x → r ≡ inverse x
+pub inverse-end : (n r s x : ℕ) → r < 256 → 7 ≤ n → mul r (squares (7 - n) s) ≡ inverse x → r ≡ inverse x
 unfolding squares
-inverse-end left r s x h z e = sym (mul-one r h) ∙ ap (λ (k : ℕ). mul r (squares k s)) (sym z) ∙ e
+inverse-end n r s x h z e = sym (mul-one r h) ∙ ap (λ (k : ℕ). mul r (squares k s)) (sym done) ∙ e
+  where
+    done : 7 - n ≡ 0
+    done = omega arith
 
 -- α^i, doubled
 pub alpha-turn : (i v w : ℕ) → v ≡ alpha i → w ≡ double v → w ≡ alpha (i + 1)

@@ -10,7 +10,7 @@ ghost use Rattle.field.specs.Field.{double, mul, inverse, alpha};
 pub fn double(x: u8) -> u8
     ensures { result ≡ double x }
 {
-    let up = 2 * (x as u16);
+    let up = 2 * u16::from(x);
     (up ^ ((up >> 8) * 285)) as u8
 }
 
@@ -19,10 +19,8 @@ pub fn multiply(x: u8, y: u8) -> u8
     ensures { result ≡ mul x y }
 {
     let mut sum: u8 = 0;
-    let mut left: u8 = 8;
-    while 0 < left {
-        left -= 1;
-        sum = double(sum) ^ (((x >> left) & 1) * y);
+    for k in (0..8u8).rev() {
+        sum = double(sum) ^ (((x >> k) & 1) * y);
     }
     sum
 }
@@ -33,9 +31,7 @@ pub fn inverse(x: u8) -> u8
 {
     let mut result: u8 = 1;
     let mut square = x;
-    let mut left: u8 = 7;
-    while 0 < left {
-        left -= 1;
+    for _ in 0..7u8 {
         square = multiply(square, square);
         result = multiply(result, square);
     }
@@ -48,7 +44,7 @@ pub fn alpha_power(e: usize) -> u8
 {
     let count = e % 255;
     let mut result: u8 = 1;
-    for i in 0..count {
+    for _ in 0..count {
         result = double(result);
     }
     result

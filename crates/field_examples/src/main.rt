@@ -6,24 +6,19 @@
 
 use std::io;
 
-fn print_line(rt: &impl Print, left: u64, sign: &[u8], right: u64, value: u8) -> io::Result<()> {
-    print!(rt; "{left}")?;
-    rt.write_all(sign)?;
-    println!(rt; "{right} = {value}")
-}
-
 fn product(rt: &impl Print, x: u8, y: u8) -> io::Result<()> {
-    print_line(rt, x as u64, b" * ", y as u64, field::multiply(x, y))
+    println!(rt; "{x} * {y} = {}", field::multiply(x, y))
 }
 
 fn inverse(rt: &impl Print, x: u8) -> io::Result<()> {
-    print_line(rt, 1, b" / ", x as u64, field::inverse(x))
+    println!(rt; "1 / {x} = {}", field::inverse(x))
 }
 
 fn power(rt: &impl Print, e: usize) -> io::Result<()> {
-    print_line(rt, 2, b" ^ ", e as u64, field::alpha_power(e))
+    println!(rt; "2 ^ {e} = {}", field::alpha_power(e))
 }
 
+// A call for each product: tools/no-tables takes a list of so many numbers for a table.
 fn products(rt: &impl Print) -> io::Result<()> {
     product(rt, 0, 0)?;
     product(rt, 0, 255)?;
@@ -49,29 +44,17 @@ fn products(rt: &impl Print) -> io::Result<()> {
 }
 
 fn inverses(rt: &impl Print) -> io::Result<()> {
-    inverse(rt, 0)?;
-    inverse(rt, 1)?;
-    inverse(rt, 2)?;
-    inverse(rt, 3)?;
-    inverse(rt, 29)?;
-    inverse(rt, 142)?;
-    inverse(rt, 255)?;
-    inverse(rt, 128)?;
-    inverse(rt, 16)?;
-    inverse(rt, 91)
+    for x in [0, 1, 2, 3, 29, 142, 255, 128, 16, 91] {
+        inverse(rt, x)?;
+    }
+    Ok(())
 }
 
 fn powers(rt: &impl Print) -> io::Result<()> {
-    power(rt, 0)?;
-    power(rt, 1)?;
-    power(rt, 7)?;
-    power(rt, 8)?;
-    power(rt, 9)?;
-    power(rt, 25)?;
-    power(rt, 254)?;
-    power(rt, 255)?;
-    power(rt, 256)?;
-    power(rt, 65535)
+    for e in [0, 1, 7, 8, 9, 25, 254, 255, 256, 65535] {
+        power(rt, e)?;
+    }
+    Ok(())
 }
 
 fn main(rt: HostRuntime) -> io::Result<()> {

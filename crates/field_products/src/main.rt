@@ -6,30 +6,20 @@
 
 use std::io;
 
-const BYTES: usize = 256;
-
-fn operand(y: u8, inverted: bool) -> u8 {
-    if inverted { field::inverse(y) } else { y }
-}
-
-// The products of x with the bytes from 0 to 255, or with their inverses: the checksum is 31 times what it was, plus the product, modulo 65,521.
-fn checksum(x: u8, inverted: bool) -> u64 {
+// The products of x with what `operand` makes of the bytes from 0 to 255: the checksum is 31 times what it was, plus the product, modulo 65,521.
+fn checksum<F: Fn(u8) -> u8>(x: u8, operand: F) -> u64
+    requires { F.IsAlwaysCallable operand }
+{
     let mut sum: u64 = 0;
-    for y in 0..BYTES {
-        sum = (31 * sum + field::multiply(x, operand(y as u8, inverted)) as u64) % 65521;
+    for y in 0..=u8::MAX {
+        sum = (31 * sum + u64::from(field::multiply(x, operand(y)))) % 65521;
     }
     sum
 }
 
-fn print_line(rt: &impl Print, left: u64, words: &[u8], right: u64) -> io::Result<()> {
-    print!(rt; "{left}")?;
-    rt.write_all(words)?;
-    println!(rt; "{right}")
-}
-
 fn main(rt: HostRuntime) -> io::Result<()> {
-    for x in 0..BYTES {
-        print_line(&rt, x as u64, b" * every byte: ", checksum(x as u8, false))?;
+    for x in 0..=u8::MAX {
+        println!(rt; "{x} * every byte: {}", checksum(x, |y| y))?;
     }
-    print_line(&rt, 1, b" / every byte: ", checksum(1, true))
+    println!(rt; "1 / every byte: {}", checksum(1, field::inverse))
 }

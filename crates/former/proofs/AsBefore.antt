@@ -3,12 +3,12 @@
 use mathlib.Core.Path.{◌≡◌, refl, ap, ◌∙◌}
 use mathlib.Core.List.{List}
 use Prim.Native.Nat.{ℕ}
+use Rattle.std.specs.Prelude.{Ok, Err}
 use lib.Dec.{ltb}
 use lib.ListN.{length, drop}
 use Rattle.lists.specs.Choice.{pick}
 use Rattle.profile.specs.declared.Profile.{Profile}
-use Rattle.sheet.specs.declared.Reading.{Reading}
-use Rattle.sheet.specs.declared.Reading.TheVariants.{Refused, Accepted}
+use Rattle.sheet.specs.Numbers.{Reading}
 use Rattle.plot.specs.Grammar.{Parsed, Plots, Stopped, reading}
 use Rattle.listing_text.specs.Text.{refusal_text, listing_text}
 use Rattle.listing.specs.Listing.{input_profile, sheet_answer_text, sheet_text, listed}
@@ -28,8 +28,8 @@ text_before changed s = text_of changed (reading s) ∙ ap (former_listing_text 
 
 answer-before : (answer : Reading) (payload : List ℕ) → sheet_answer_text answer payload ≡ former_sheet_answer_text answer payload
 unfolding sheet_answer_text former_sheet_answer_text
-answer-before (Refused r) payload = refl
-answer-before (Accepted changed) payload = text_before changed payload
+answer-before (Err r) payload = refl
+answer-before (Ok changed) payload = text_before changed payload
 
 sheet-before : (p : Profile) (sheet : List ℕ) → sheet_text p sheet ≡ former_sheet_text p sheet
 unfolding sheet_text former_sheet_text

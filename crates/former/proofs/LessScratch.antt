@@ -7,6 +7,7 @@ use mathlib.Core.List.{List}
 use Prim.Native.Nat.{ℕ, ◌*◌, ◌≤◌}
 use native.Mathlib.Nat.{mul-le-mul_right}
 use native.Mathlib.Omega.{arith}
+use Rattle.std.specs.Prelude.{Err, is_ok}
 use lib.Dec.{eqb}
 use lib.ListN.{length, replicate, length-replicate}
 use borrow.Author.Tests.{eqb-true, eq-eqb, ne_eqb}
@@ -19,10 +20,8 @@ use Rattle.profile.specs.declared.Profile.{Profile}
 use Rattle.sheet.specs.declared.Mode.{Mode}
 use Rattle.sheet.specs.declared.Mode.TheVariants.{Burst}
 use Rattle.sheet.specs.declared.Refusal.TheVariants.{BadProfile, WrongLength}
-use Rattle.sheet.specs.declared.Reading.{Reading}
-use Rattle.sheet.specs.declared.Reading.TheVariants.{Refused}
-use Rattle.sheet.specs.Sheet.{is_accepted, sheet_answer, sheet_payload, read_fits, read_answer, read_scratch, read_payload}
-use Rattle.sheet.specs.Numbers.{reading_number}
+use Rattle.sheet.specs.Sheet.{sheet_answer, sheet_payload, read_fits, read_answer, read_scratch, read_payload}
+use Rattle.sheet.specs.Numbers.{Reading, reading_number}
 use Rattle.sheet.proofs.Entry.{read_lengths}
 use Rattle.sheet.proofs.Refusals.{Late, sheet-late, sheet_refusals}
 use Rattle.listing.specs.Listing.{scratch_buffer, payload_buffer, sheet_answer_text, sheet_text}
@@ -44,8 +43,8 @@ unfolding read_answer read_payload former_read_answer former_read_payload
 as_former_reader mode p sheet out small large e =
     let f = same-fits p (length sheet) (length out) (length small) (length large) e in
     record {
-      answer = ap (λ (t : Bool). refusing p t (Refused BadProfile) (Refused WrongLength) (sheet_answer mode p sheet)) f;
-      payload = ap (λ (t : Bool). refusing p t out out (pick (is_accepted (sheet_answer mode p sheet)) (sheet_payload mode p sheet) out)) f;
+      answer = ap (λ (t : Bool). refusing p t (Err BadProfile) (Err WrongLength) (sheet_answer mode p sheet)) f;
+      payload = ap (λ (t : Bool). refusing p t out out (pick (is_ok (sheet_answer mode p sheet)) (sheet_payload mode p sheet) out)) f;
     }
 
 pub text_as_former : TextAsFormer
@@ -61,7 +60,7 @@ text_as_former p sheet =
 -- by the three cases, of a reader whose scratch has m bytes where its buffers fit
 module _ (p : Profile) (fits : Bool) (rest : Reading) (late : Late rest) (scratch : List ℕ) (m : ℕ) (long : fits ≡ true → length scratch ≡ m) where
   abbrev number : ℕ
-  number = reading_number (refusing p fits (Refused BadProfile) (Refused WrongLength) rest)
+  number = reading_number (refusing p fits (Err BadProfile) (Err WrongLength) rest)
 
   abbrev left : List ℕ
   left = refusing p fits scratch scratch (replicate (length scratch) 0)
@@ -71,10 +70,10 @@ module _ (p : Profile) (fits : Bool) (rest : Reading) (late : Late rest) (scratc
       ⊎_elim
       (λ t. ⊎_elim
       (λ f.
-      let q = accept p fits (Refused BadProfile) (Refused WrongLength) rest t f in
+      let q = accept p fits (Err BadProfile) (Err WrongLength) rest t f in
       inr (inr (λ z. late.0 (ap reading_number q ∙ z), λ z. late.1 (ap reading_number q ∙ z), sym (accept p fits scratch scratch _ t f) ∙ ap (λ (k : ℕ). replicate k 0) (long f))))
-      (λ f. inr (inl (ap reading_number (sym (refuse_two p fits (Refused BadProfile) (Refused WrongLength) rest t f)), sym (refuse_two p fits scratch scratch _ t f)))) (true_or_false fits))
-      (λ t. inl (ap reading_number (sym (refuse_one p fits (Refused BadProfile) (Refused WrongLength) rest t)), sym (refuse_one p fits scratch scratch _ t))) (true_or_false (in_range p))
+      (λ f. inr (inl (ap reading_number (sym (refuse_two p fits (Err BadProfile) (Err WrongLength) rest t f)), sym (refuse_two p fits scratch scratch _ t f)))) (true_or_false fits))
+      (λ t. inl (ap reading_number (sym (refuse_one p fits (Err BadProfile) (Err WrongLength) rest t)), sym (refuse_one p fits scratch scratch _ t))) (true_or_false (in_range p))
 
   kept_then : (number ≡ 1) ⊎ (number ≡ 2) → left ≡ scratch
   kept_then e = ⊎_elim (λ z. z.1) (λ w. ⊎_elim (λ z. z.1) (λ z. absurd (⊎_elim z.0 z.1 e)) w) by_case

@@ -4,19 +4,16 @@ use Prim.Native.Nat.{ℕ, ◌+◌, ◌-◌}
 use mathlib.Core.Path.{◌≡◌, refl, ap, ◌∙◌}
 use mathlib.Core.Bool.{not}
 use mathlib.Core.List.{List, [], ◌∷◌}
+use Rattle.std.specs.Prelude.{Ok, Err}
 use lib.ListN.{length}
 use lib.Dec.{ltb, leb, eqb}
-use Rattle.plot.specs.declared.Located.{Located}
-use Rattle.plot.specs.declared.Located.TheVariants as located-as
-use Rattle.plot.specs.declared.Added.{Added}
-use Rattle.plot.specs.declared.Added.TheVariants as added-as
-use Rattle.plot.specs.Layout.{Plot, no_line, lines_of, record_of}
+use Rattle.plot.specs.Layout.{Plot, no_line, lines_check, lines_hold, lines_of, record_of}
 use Rattle.plot.specs.Grammar.{Parsed, Plots, Stopped, reading}
-use Rattle.plot.specs.Answers.{checked_of, seek, located_of, located, part_of, lines_fit, room_for, added_of, added, payload_after}
+use Rattle.plot.specs.Answers.{Located, Added, checked_of, seek, located_of, located, part_of, lines_fit, room_for, added_of, added, payload_after}
 use Rattle.former.specs.Former.{Former, former_checked_of}
 use Rattle.former.specs.Former.{Part, former_seek, former_located_of, former_located, former_part_of, former_room_for, former_added_of, former_added, former_payload_after}
 use Rattle.former.specs.Unchanged.{LinesAsBefore, SteppingAsBefore, checked_as, CheckingAsBefore, located_as, AskingAsBefore, added_as, AddingAsBefore}
-use Rattle.former.proofs.Reading.{through, through_equal, line_as_before, lines_as_before, step_as_before, read, reading_as_before}
+use Rattle.former.proofs.Reading.{through, through_lines, line_as_before, lines_as_before, step_as_before, read, reading_as_before}
 
 pub lines-before : LinesAsBefore
 lines-before = record { one = line_as_before; all = λ before count s. lines_as_before count before s }
@@ -51,8 +48,8 @@ place_same n s = place_of n (reading s) ∙ ap (former_located_of n) (reading_as
 
 place_part : (l : Located) (s : List ℕ) → part_of l s ≡ former_part_of (located_as l) s
 unfolding part_of former_part_of
-place_part (located-as.At start len) s = refl
-place_part (located-as.Refused r) s = refl
+place_part (Ok place) s = refl
+place_part (Err r) s = refl
 
 pub asking_before : (n : ℕ) (s : List ℕ) → AskingAsBefore n s
 asking_before n s = record {
@@ -63,11 +60,11 @@ asking_before n s = record {
 -- ---- adding
 
 room_for_same : (size end last : ℕ) (p : Plot) → added_as (room_for size end last p) ≡ former_room_for size end last p
-unfolding room_for former_room_for
+unfolding room_for former_room_for lines_hold
 room_for_same size end last p =
     through added_as (not (lines_fit p.lines)) refl
     (through added_as (eqb p.number 0) refl
-    (through_equal added_as (ap not (lines_as_before (lines_of p) no_line p.lines)) refl
+    (through_lines added_as end (lines_check no_line 0 (lines_of p) p.lines) (lines_as_before (lines_of p) no_line p.lines) (λ bad. refl)
     (through added_as (leb p.number last) refl
     (through added_as (ltb (size - end) (length (record_of p))) refl
     refl))))
@@ -82,8 +79,8 @@ room_same p s = room_of s p (reading s) ∙ ap (former_added_of s p) (reading_as
 
 room_payload : (a : Added) (p : Plot) (s : List ℕ) → payload_after a p s ≡ former_payload_after (added_as a) p s
 unfolding payload_after former_payload_after
-room_payload (added-as.At start) p s = refl
-room_payload (added-as.Refused r) p s = refl
+room_payload (Ok start) p s = refl
+room_payload (Err r) p s = refl
 
 pub adding_before : (p : Plot) (s : List ℕ) → AddingAsBefore p s
 adding_before p s = record {

@@ -7,7 +7,7 @@ use Rattle.sheet.specs.declared.Mode.TheVariants.{Burst}
 use Rattle.sheet.specs.Sheet.{read_answer}
 use Rattle.sheet.specs.Buffers.{Lent}
 use Rattle.sheet.specs.Theorems.{Results, ReadRefusals}
-use Rattle.sheet.specs.declared.Reading.{Reading}
+use Rattle.sheet.specs.Numbers.{Reading}
 use Rattle.sheet.proofs.Theorems.{read-results}
 use Rattle.sheet.proofs.Refusals.{sheet_refusals}
 use Rattle.listing.specs.Listing.{scratch_buffer, payload_buffer}

@@ -4,17 +4,16 @@ use mathlib.Core.Logic.{◌≢◌, inl, inr}
 use mathlib.Core.List.{List}
 use Prim.Native.Nat.{ℕ, ◌≤◌}
 use native.Mathlib.Omega.{arith}
+use Rattle.std.specs.Prelude.{Ok, Err}
 use lib.ListN.{length, drop}
 use borrow.Author.Tests.{le-ltb}
 use Rattle.profile.specs.Profile.{InRange}
 use Rattle.profile.specs.declared.Profile.{Profile}
 use Rattle.sheet.specs.declared.Mode.TheVariants.{Burst}
 use Rattle.sheet.specs.Sheet.{read_block, read_payload}
-use Rattle.sheet.specs.Numbers.{reading_number, reading_place}
+use Rattle.sheet.specs.Numbers.{Reading, reading_number, reading_place}
 use Rattle.sheet.specs.Buffers.{Lent}
 use Rattle.sheet.specs.Theorems.{LowestRefused, AllWords, differing}
-use Rattle.sheet.specs.declared.Reading.{Reading}
-use Rattle.sheet.specs.declared.Reading.TheVariants.{Refused, Accepted}
 use Rattle.sheet.proofs.Modes.{block_law}
 use Rattle.sheet.proofs.Theorems.{block_cells, read-accepts}
 use Rattle.plot.specs.Grammar.{reading}
@@ -32,8 +31,8 @@ use Rattle.listing.proofs.Cases.{own_buffers, text_accepted, listed-short}
 
 answer_text : (a : Reading) (m : List ℕ) → reading_number a ≢ 0 → sheet_answer_text a m ≡ refusal_text (reading_number a) (reading_place a)
 unfolding sheet_answer_text
-answer_text (Refused r) m n = refl
-answer_text (Accepted changed) m n = absurd (n refl)
+answer_text (Err r) m n = refl
+answer_text (Ok changed) m n = absurd (n refl)
 
 module _ (p : Profile) (sheet : List ℕ) where
   refused_text : (number place : ℕ) → reading_number (answer p sheet) ≡ number → reading_place (answer p sheet) ≡ place → number ≢ 0 → sheet_text p sheet ≡ refusal_text number place

@@ -5,6 +5,7 @@ use mathlib.Core.Logic.{◌⊎◌, inl, inr, ⊎_elim}
 use mathlib.Core.List.{List}
 use Prim.Native.Nat.{ℕ, ◌*◌, ◌≤◌}
 use native.Mathlib.Omega.{arith}
+use Rattle.std.specs.Prelude.{Ok, Err}
 use lib.Dec.{ltb, eqb}
 use lib.ListN.{length, drop}
 use borrow.Author.Tests.{eqb-true, eqb-false}
@@ -16,10 +17,8 @@ use Rattle.profile.specs.declared.Profile.{Profile}
 use Rattle.profile.proofs.Ranges.{in_range_lem}
 use Rattle.sheet.specs.declared.Mode.TheVariants.{Burst}
 use Rattle.sheet.specs.Sheet.{read_payload}
-use Rattle.sheet.specs.Numbers.{refusal_number, refusal_place, reading_number, reading_place}
+use Rattle.sheet.specs.Numbers.{refusal_number, refusal_place, Reading, reading_number, reading_place}
 use Rattle.sheet.specs.Buffers.{Lent}
-use Rattle.sheet.specs.declared.Reading.{Reading}
-use Rattle.sheet.specs.declared.Reading.TheVariants.{Refused, Accepted}
 use Rattle.sheet.specs.declared.Refusal.{Refusal}
 use Rattle.sheet.proofs.Accepted.{payload_back, changed-most}
 use Rattle.listing_text.proofs.Fill.{fill_whole}
@@ -30,7 +29,7 @@ use Rattle.listing.proofs.OwnBuffers.{answer, refusals, results}
 use Rattle.listing.proofs.Cases.{number_small, text_refused, text_accepted, own_buffers}
 
 module _ (p : Profile) (sheet : List ℕ) where
-  refused-fits : (r : Refusal) → (answer p sheet) ≡ Refused r → refusal_place r ≤ 16 → length (sheet_text p sheet) ≤ longest_text
+  refused-fits : (r : Refusal) → (answer p sheet) ≡ Err r → refusal_place r ≤ 16 → length (sheet_text p sheet) ≤ longest_text
   refused-fits r q h =
       rw (sym (text_refused p sheet (scratch_buffer p) (payload_buffer p) refl refl r (sym q)))
       (refusal_length (refusal_number r) (refusal_place r) (omega (arith, number_small r)) (omega arith))
@@ -44,8 +43,8 @@ module _ (p : Profile) (sheet : List ℕ) where
         (λ n. omega (arith, (((results p sheet v h).refused (reading_place (answer p sheet)) (reading_number (answer p sheet)) n).0 (refl, refl)).below, v.depth_most)) (zero_or (reading_number (answer p sheet)))
 
     answer-fits : (a : Reading) → (answer p sheet) ≡ a → length (sheet_text p sheet) ≤ longest_text
-    answer-fits (Refused r) q = refused-fits r q (let e : reading_place (answer p sheet) ≡ refusal_place r = ap reading_place q in omega (arith, place_most))
-    answer-fits (Accepted changed) q =
+    answer-fits (Err r) q = refused-fits r q (let e : reading_place (answer p sheet) ≡ refusal_place r = ap reading_place q in omega (arith, place_most))
+    answer-fits (Ok changed) q =
         let back = read_payload Burst p sheet (scratch_buffer p) (payload_buffer p) in
         let bytes = (payload_back Burst p sheet (scratch_buffer p) (payload_buffer p) v h changed q).bytes in
         let most : changed ≤ p.depth = changed-most Burst p sheet (scratch_buffer p) (payload_buffer p) v h changed q in
@@ -54,8 +53,8 @@ module _ (p : Profile) (sheet : List ℕ) where
 
   -- refusals 1 and 2
   early_fits : (a : Reading) → (answer p sheet) ≡ a → (reading_number (answer p sheet) ≡ 1) ⊎ (reading_number (answer p sheet) ≡ 2) → length (sheet_text p sheet) ≤ longest_text
-  early_fits (Refused r) q e = refused-fits r q (let z : reading_place (answer p sheet) ≡ 0 = (refusals p sheet).place e in let k : reading_place (answer p sheet) ≡ refusal_place r = ap reading_place q in omega arith)
-  early_fits (Accepted changed) q e = let z : reading_number (answer p sheet) ≡ 0 = ap reading_number q in absurd (⊎_elim (λ o. omega arith) (λ o. omega arith) e)
+  early_fits (Err r) q e = refused-fits r q (let z : reading_place (answer p sheet) ≡ 0 = (refusals p sheet).place e in let k : reading_place (answer p sheet) ≡ refusal_place r = ap reading_place q in omega arith)
+  early_fits (Ok changed) q e = let z : reading_number (answer p sheet) ≡ 0 = ap reading_number q in absurd (⊎_elim (λ o. omega arith) (λ o. omega arith) e)
 
   -- any sheet of bytes under any profile
   sheet-fits : Bytes sheet → length (sheet_text p sheet) ≤ longest_text

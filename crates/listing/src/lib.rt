@@ -3,76 +3,37 @@
 
 #![tactic(auto)]
 
-ghost use Rattle.std.specs.Prelude.{◌≡◌, ◌≤◌, length, replicate};
+ghost use Rattle.std.specs.Prelude.{◌≡◌};
 ghost use Rattle.profile.specs.Profile.{InRange};
 ghost use Rattle.listing_text.specs.Buffer.{text_in, text_length};
-ghost use Rattle.sheet.specs.Numbers.{refusal_number};
-ghost use Rattle.listing.specs.Listing.{input_profile, scratch_buffer, payload_buffer, sheet_text, listed};
+ghost use Rattle.listing.specs.Listing.{profile_in, sheet_text, listed};
 
-use profile::Profile;
-use sheet::{Reading, Refusal};
+use answers::Numbered;
+use profile::{Profile, Refusal};
 
-fn wide(x: u8) -> usize
-    ensures { result ≡ x }
+// The profile of an input: five bytes, each a number in its range.
+fn profile_of(input: &[u8]) -> Result<Profile, Refusal>
+    ensures { result ≡ profile_in input.now }
 {
-    x as usize
-}
-
-fn profile_of(input: &[u8]) -> Profile
-    requires { 5 ≤ length input.now }
-    ensures { result ≡ input_profile input.now }
-{
-    Profile {
-        n: wide(input[0]),
-        r: wide(input[1]),
-        b: wide(input[2]),
-        limit: wide(input[3]),
-        depth: wide(input[4]),
+    let is_short = input.len() < 5;
+    if is_short {
+        return Err(Refusal::BadProfile);
+    }
+    let p = Profile {
+        n: usize::from(input[0]),
+        r: usize::from(input[1]),
+        b: usize::from(input[2]),
+        limit: usize::from(input[3]),
+        depth: usize::from(input[4]),
+    };
+    if p.in_range() {
+        Ok(p)
+    } else {
+        Err(Refusal::BadProfile)
     }
 }
 
-// A sheet's refusal is at most 16.
-fn number(r: Refusal) -> u8
-    ensures { result ≡ refusal_number r }
-{
-    r.number() as u8
-}
-
-// The text for a sheet, with the reader's buffers lent and zero.
-fn list_read(
-    p: Profile,
-    sheet: &[u8],
-    scratch: &mut [u8],
-    payload: &mut [u8],
-    out: &mut [u8],
-) -> usize
-    requires { (scratch.old ≡ scratch_buffer p) × (payload.old ≡ payload_buffer p) }
-    ensures value { result ≡ text_length (sheet_text p sheet.now) out.old }
-    ensures out_after { out.new ≡ text_in (sheet_text p sheet.now) out.old }
-{
-    match sheet::read(p, sheet, scratch, payload) {
-        Reading::Refused(r) => listing_text::write_refusal(number(r), r.place(), out),
-        Reading::Accepted { changed } => listing_text::write_listing(payload, changed, out),
-    }
-}
-
-// With buffers of 255 and 4048 zeros, of which the profile takes its parts.
-fn list_with(
-    p: Profile,
-    sheet: &[u8],
-    scratch: &mut [u8],
-    payload: &mut [u8],
-    out: &mut [u8],
-) -> usize
-    requires { InRange p × (scratch.old ≡ replicate 255 0) × (payload.old ≡ replicate 4048 0) }
-    ensures value { result ≡ text_length (sheet_text p sheet.now) out.old }
-    ensures out_after { out.new ≡ text_in (sheet_text p sheet.now) out.old }
-{
-    let n = p.n;
-    let size = p.depth * p.message_length();
-    list_read(p, sheet, &mut scratch[..n], &mut payload[..size], out)
-}
-
+// The text for a sheet, read with buffers of zeros, of which the reader takes the parts that the profile asks for.
 fn list_sheet(p: Profile, sheet: &[u8], out: &mut [u8]) -> usize
     requires { InRange p }
     ensures value { result ≡ text_length (sheet_text p sheet.now) out.old }
@@ -80,7 +41,13 @@ fn list_sheet(p: Profile, sheet: &[u8], out: &mut [u8]) -> usize
 {
     let mut scratch = [0u8; 255];
     let mut payload = [0u8; 4048];
-    list_with(p, sheet, &mut scratch, &mut payload, out)
+    let scratch = &mut scratch[..p.n];
+    let size = p.depth * p.message_length();
+    let payload = &mut payload[..size];
+    match sheet::read(p, sheet, scratch, payload) {
+        Ok(changed) => listing_text::write_listing(payload, changed, out),
+        Err(refusal) => listing_text::write_refusal(refusal.number(), refusal.place(), out),
+    }
 }
 
 /// Writes the answer's text into `out` from its first byte on, and answers how many bytes that is.
@@ -88,12 +55,8 @@ pub fn list(input: &[u8], out: &mut [u8]) -> usize
     ensures value { result ≡ text_length (listed input.now) out.old }
     ensures out_after { out.new ≡ text_in (listed input.now) out.old }
 {
-    if input.len() < 5 {
-        return listing_text::write_refusal(1, 0, out);
+    match profile_of(input) {
+        Ok(p) => list_sheet(p, &input[5..], out),
+        Err(refusal) => listing_text::write_refusal(refusal.number(), refusal.place(), out),
     }
-    let p = profile_of(input);
-    if !p.in_range() {
-        return listing_text::write_refusal(1, 0, out);
-    }
-    list_sheet(p, &input[5..], out)
 }

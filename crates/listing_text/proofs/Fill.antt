@@ -2,11 +2,10 @@
 use Prim.Native.Nat.{ℕ, zero, suc, ◌+◌, ◌/◌, ◌%◌, ◌<◌, ◌≤◌, min}
 use native.Mathlib.Omega.{arith}
 use native.Mathlib.Nat.{div-mul-le_self, mod-eq_of_lt, le_refl}
-use native.Mathlib.Numerals.{add-one}
 use mathlib.Core.Path.{◌≡◌, refl, sym, ap, ◌∙◌}
 use mathlib.Core.List.{List, [], ◌∷◌, ◌++◌, append-nil}
-use lib.ListN.{length, take, drop, get_or, set, length-append, drop_of_length-le}
-use lib.Seq.{drop-cons, take-nil, take_all, take_at, drop-nil, set-append_seam, append_snoc}
+use lib.ListN.{length, take, drop, set, length-append}
+use lib.Seq.{take-nil, take_all, take_at, drop-nil, set-append_seam, append_snoc}
 use lib.Dec.{ltb}
 use borrow.Author.Tests.{lt-ltb, le-ltb}
 use Rattle.lists.specs.Choice.{pick}
@@ -32,20 +31,6 @@ pub put-append : (s t : List ℕ) (b : Buffer) → put_all (s ++ t) b ≡ put_al
 unfolding put_all
 put-append [] t b = refl
 put-append (x ∷ s) t b = put-append s t (put_byte x b)
-
--- a piece, then more: what is put after the first piece is put after it
-pub put_then : (s t : List ℕ) (b c d : Buffer) → c ≡ put_all s b → d ≡ put_all t c → d ≡ put_all (s ++ t) b
-put_then s t b c d e f = f ∙ ap (put_all t) e ∙ sym (put-append s t b)
-
--- a loop over a text
-module _ (t : List ℕ) (i : ℕ) (b : Buffer) where
-  pub text_on : i < length t → put_all (drop i t) b ≡ put_all (drop (i + 1) t) (put_byte (get_or t i 0) b)
-  unfolding put_all
-  text_on h = rw (drop-cons t i 0 h, add-one)
-
-  pub text_end : length t ≤ i → put_all (drop i t) b ≡ b
-  unfolding put_all
-  text_end h = rw (drop_of_length-le t h)
 
 -- digits
 tenth : (n f : ℕ) → n ≤ suc f → n / 10 ≤ f

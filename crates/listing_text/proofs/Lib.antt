@@ -1,4 +1,5 @@
 pub mod Fill
+pub mod Puts
 pub mod Texts
 pub mod Lengths
 pub mod Meaning

@@ -1,3 +1,4 @@
 pub mod Text
 pub mod Buffer
 pub mod Meaning
+pub mod Puts

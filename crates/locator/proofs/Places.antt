@@ -4,7 +4,7 @@ use mathlib.Core.Path.{◌≡◌, refl, sym, ap, ap₂, ◌∙◌}
 use mathlib.Core.Logic.{◌≢◌}
 use mathlib.Core.Bool.{Bool, true, false}
 use mathlib.Core.List.{List, [], ◌∷◌, ◌++◌, map, append-nil, append_assoc, map-append}
-use Prim.Native.Nat.{ℕ, zero, suc, ◌+◌, ◌-◌, ◌≤◌, ◌<◌, min}
+use Prim.Native.Nat.{ℕ, zero, suc, ◌+◌, ◌≤◌, ◌<◌}
 use native.Mathlib.Omega.{arith}
 use lib.Dec.{eqb}
 use lib.ListN.{length, set, replicate, length-append, length-map}
@@ -20,7 +20,7 @@ use Rattle.words.proofs.Pad.{pad_take, pad_snoc}
 use Rattle.products.proofs.Values.{Points, value-at}
 use Rattle.locator.specs.Locator.{roots_from}
 use Rattle.locator.specs.Answer.{errors_at}
-use Rattle.locator.specs.declared.Located.{Located}
+use Rattle.locator.specs.declared.Errors.{Errors}
 
 -- ---- a list in a buffer
 
@@ -40,15 +40,15 @@ store_none n i c b E h l e = e ∙ pad_past n E c (omega arith)
 abbrev pub Stores : ℕ → ℕ → List ℕ → List ℕ → Type 0
 Stores i c b b' = (E : List ℕ) → length E ≡ i → b ≡ pad_to 32 E → b' ≡ pad_to 32 (E ++ (c ∷ []))
 
-pub place_more : (f : Located) (E : List ℕ) (place point : ℕ) (P Q : List ℕ) → point ≡ alpha place → Stores f.count place f.places P
-    → Stores f.count point f.points Q → f ≡ errors_at E → record { near = 1; count = f.count + 1; places = P; points = Q } ≡ errors_at (E ++ (place ∷ []))
+pub place_more : (f : Errors) (E : List ℕ) (place point : ℕ) (P Q : List ℕ) → point ≡ alpha place → Stores f.count place f.places P
+    → Stores f.count point f.points Q → f ≡ errors_at E → record { count = f.count + 1; places = P; points = Q } ≡ errors_at (E ++ (place ∷ []))
 unfolding errors_at
 place_more f E place point P Q a hP hQ e =
-    let n : f.count ≡ length E = ap (λ (l : Located). l.count) e in
+    let n : f.count ≡ length E = ap (λ (l : Errors). l.count) e in
     let n' : f.count + 1 ≡ length (E ++ (place ∷ [])) = omega (arith, length-append E (place ∷ [])) in
-    let p : P ≡ pad_to 32 (E ++ (place ∷ [])) = hP E (sym n) (ap (λ (l : Located). l.places) e) in
+    let p : P ≡ pad_to 32 (E ++ (place ∷ [])) = hP E (sym n) (ap (λ (l : Errors). l.places) e) in
     let q : Q ≡ pad_to 32 (map alpha (E ++ (place ∷ []))) =
-    hQ (map alpha E) (length-map E alpha ∙ sym n) (ap (λ (l : Located). l.points) e) ∙ ap (λ (v : ℕ). pad_to 32 (map alpha E ++ (v ∷ []))) a
+    hQ (map alpha E) (length-map E alpha ∙ sym n) (ap (λ (l : Errors). l.points) e) ∙ ap (λ (v : ℕ). pad_to 32 (map alpha E ++ (v ∷ []))) a
     ∙ ap (pad_to 32) (sym (map-append alpha E (place ∷ []))) in
     rw (n', p, q) refl
 
@@ -79,7 +79,7 @@ unfolding roots_from
 root_none P k n = let t : eqb (eval P (alpha k)) 0 ≡ false = ne_eqb (eval P (alpha k)) 0 n in rw t refl
 
 -- one more cell of the word: it is a root, or it is none
-module _ (P E : List ℕ) (values points j i c : ℕ) (f : Located) (h : i < 8) (e : Points points j) (v : bytes_from 8 0 values ≡ evals P (bytes_from 8 0 points)) (q : c ≡ byte values i)
+module _ (P E : List ℕ) (values points j i c : ℕ) (f : Errors) (h : i < 8) (e : Points points j) (v : bytes_from 8 0 values ≡ evals P (bytes_from 8 0 points)) (q : c ≡ byte values i)
     (ef : f ≡ errors_at (E ++ roots_from P i j)) where
   abbrev value : ℕ
   value = eval P (alpha (j + i))
@@ -88,7 +88,7 @@ module _ (P E : List ℕ) (values points j i c : ℕ) (f : Located) (h : i < 8) 
   grown l el =
       ap errors_at (append_assoc E (roots_from P i j) l ∙ ap (λ (u : List ℕ). E ++ u) (ap (λ (u : List ℕ). roots_from P i j ++ u) (sym el) ∙ sym (roots_append P i 1 j)))
 
-  pub word_root : (r : Located) → c ≡ 0 → ((E : List ℕ) → f ≡ errors_at E → r ≡ errors_at (E ++ ((j + i) ∷ []))) → r ≡ errors_at (E ++ roots_from P (i + 1) j)
+  pub word_root : (r : Errors) → c ≡ 0 → ((E : List ℕ) → f ≡ errors_at E → r ≡ errors_at (E ++ ((j + i) ∷ []))) → r ≡ errors_at (E ++ roots_from P (i + 1) j)
   word_root r z er =
       er (E ++ roots_from P i j) ef ∙ grown ((j + i) ∷ []) (root_there P (j + i) (sym (value-at P values j i c h (v ∙ ap (evals P) e) q) ∙ z))
 
@@ -96,24 +96,19 @@ module _ (P E : List ℕ) (values points j i c : ℕ) (f : Located) (h : i < 8) 
   word_other n =
       ef ∙ ap errors_at (sym (append-nil (E ++ roots_from P i j))) ∙ grown [] (root_none P (j + i) (λ z. n (value-at P values j i c h (v ∙ ap (evals P) e) q ∙ z)))
 
-pub word_none : (P E : List ℕ) (j : ℕ) (f : Located) → f ≡ errors_at E → f ≡ errors_at (E ++ roots_from P 0 j)
+pub word_none : (P E : List ℕ) (j : ℕ) (f : Errors) → f ≡ errors_at E → f ≡ errors_at (E ++ roots_from P 0 j)
 unfolding roots_from
 word_none P E j f e = e ∙ ap errors_at (sym (append-nil E))
 
 -- ---- all cells
 
-pub all_none : (P : List ℕ) (n : ℕ) → record { near = 1; count = 0; places = replicate 32 0; points = replicate 32 0 } ≡ errors_at (roots_from P (min 0 n) 0)
+pub all_none : (P : List ℕ) → record { count = 0; places = replicate 32 0; points = replicate 32 0 } ≡ errors_at (roots_from P 0 0)
 unfolding errors_at roots_from pad_to
-all_none P n = let e : min 0 n ≡ 0 = omega arith in rw e refl
+all_none P = refl
 
-pub all_more : (P : List ℕ) (n j m : ℕ) (f r : Located) → j < n → m ≡ min (n - j) 8 → f ≡ errors_at (roots_from P (min j n) 0)
-    → ((E : List ℕ) → f ≡ errors_at E → r ≡ errors_at (E ++ roots_from P m j)) → r ≡ errors_at (roots_from P (min (j + 8) n) 0)
-all_more P n j m f r h em ef er =
-    let a : min j n ≡ j = omega arith in
-    let b : j + m ≡ min (j + 8) n = omega arith in
+pub all_more : (P : List ℕ) (j m k : ℕ) (f r : Errors) → j + m ≡ k → f ≡ errors_at (roots_from P j 0)
+    → ((E : List ℕ) → f ≡ errors_at E → r ≡ errors_at (E ++ roots_from P m j)) → r ≡ errors_at (roots_from P k 0)
+all_more P j m k f r e ef er =
     let z : 0 + j ≡ j = omega arith in
-    er (roots_from P j 0) (ef ∙ ap (λ (i : ℕ). errors_at (roots_from P i 0)) a)
-    ∙ ap errors_at (ap (λ (i : ℕ). roots_from P j 0 ++ roots_from P m i) (sym z) ∙ sym (roots_append P j m 0) ∙ ap (λ (i : ℕ). roots_from P i 0) b)
-
-pub all_in : (P : List ℕ) (n j : ℕ) (f : Located) → n ≤ j → f ≡ errors_at (roots_from P (min j n) 0) → f ≡ errors_at (roots_from P n 0)
-all_in P n j f h e = let a : min j n ≡ n = omega arith in e ∙ ap (λ (i : ℕ). errors_at (roots_from P i 0)) a
+    er (roots_from P j 0) ef
+    ∙ ap errors_at (ap (λ (i : ℕ). roots_from P j 0 ++ roots_from P m i) (sym z) ∙ sym (roots_append P j m 0) ∙ ap (λ (i : ℕ). roots_from P i 0) e)

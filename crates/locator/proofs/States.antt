@@ -3,13 +3,13 @@
 use mathlib.Core.Path.{◌≡◌, refl, sym, ap, ap₂, ◌∙◌}
 use mathlib.Core.Logic.{◌≢◌}
 use mathlib.Core.Bool.{true, false}
-use mathlib.Core.List.{List, [], ◌∷◌, ◌++◌}
+use mathlib.Core.List.{List, [], ◌∷◌, ◌++◌, reverse}
+use Rattle.std.proofs.lemmas.List.{take_more, reverse-append}
 use Prim.Native.Nat.{ℕ, zero, suc, ◌+◌, ◌-◌, ◌≤◌, ◌<◌}
-use native.Mathlib.Nat.{not-suc-le-zero, le_of_suc-le-suc}
 use native.Mathlib.Omega.{arith}
 use lib.Dec.{eqb, ltb}
 use lib.ListN.{length, get_or, take, drop, replicate, drop_of_length-le}
-use lib.Seq.{drop-cons, take_all, take_at}
+use lib.Seq.{drop-cons}
 use borrow.Author.Tests.{eq-eqb, ne_eqb, lt-ltb, le-ltb}
 use Rattle.code.specs.Poly.{padd, pscale}
 use Rattle.products.specs.Products.{dot}
@@ -17,8 +17,7 @@ use Rattle.words.specs.Cells.{shift_up, pad_to}
 use Rattle.words.proofs.Pad.{pad_nil, pad_at, pad_up}
 use Rattle.erasure.proofs.Dot.{dot-cells}
 use Rattle.locator.specs.Locator.{Recursion, start, grows, next, turn, massey_from, massey, mirrored}
-use Rattle.locator.specs.Answer.{turn_at, WithinLimit}
-use Rattle.locator.proofs.Recursion.{mirrored-length}
+use Rattle.locator.specs.Answer.{turn_at}
 use Rattle.locator.proofs.Run.{never_smaller}
 
 -- ---- one turn
@@ -124,28 +123,24 @@ unfolding massey_from
 from-none T k = refl
 
 -- all of them are read
-pub reading-all : (s R : List ℕ) (i limit : ℕ) (k : Recursion) → length s ≤ i → Reading s i R k → WithinLimit limit (massey 64 s) k
-reading-all s R i limit k h g =
-    let e : massey 64 s ≡ k = g.left ∙ ap (λ (u : List ℕ). massey_from 64 u g.read k) (drop_of_length-le s h) ∙ from-none g.read k in
-    record { exact = λ l. sym e; exceeded = λ l. rw e l }
+pub reading-all : (s R : List ℕ) (i : ℕ) (k : Recursion) → length s ≤ i → Reading s i R k → k ≡ massey 64 s
+reading-all s R i k h g =
+    sym (g.left ∙ ap (λ (u : List ℕ). massey_from 64 u g.read k) (drop_of_length-le s h) ∙ from-none g.read k)
 
--- the size is above the limit
-pub reading-left : (s R : List ℕ) (i limit : ℕ) (k : Recursion) → limit < k.size → Reading s i R k → WithinLimit limit (massey 64 s) k
+-- the size is above the limit, and stays there
+pub reading-left : (s R : List ℕ) (i limit : ℕ) (k : Recursion) → limit < k.size → Reading s i R k → limit < (massey 64 s).size
 reading-left s R i limit k h g =
     let m : k.size ≤ (massey 64 s).size = rw g.left (never_smaller 64 (drop i s) g.read k) in
-    record { exact = λ l. absurd (omega arith); exceeded = λ l. omega arith }
+    omega arith
 
 -- ---- the locator's cells
 
-pub mirrored-at : (p : ℕ) (C : List ℕ) (i : ℕ) → i ≤ p → get_or (mirrored p C) i 0 ≡ get_or C (p - i) 0
+-- the locator's cells are the lowest of the polynomial, the last one first
+pub mirrored-is : (p : ℕ) (C : List ℕ) → p < length C → reverse (take (p + 1) C) ≡ mirrored p C
 unfolding mirrored
-mirrored-at zero C zero h = refl
-mirrored-at zero C (suc i) h = absurd (not-suc-le-zero h)
-mirrored-at (suc p) C zero h = let e : suc p ≡ suc p - 0 = omega arith in ap (λ (k : ℕ). get_or C k 0) e
-mirrored-at (suc p) C (suc i) h = let e : p - i ≡ suc p - suc i = omega arith in mirrored-at p C i (le_of_suc-le-suc h) ∙ ap (λ (k : ℕ). get_or C k 0) e
-
-pub mirrored-all : (p i : ℕ) (C D out : List ℕ) → i ≡ p + 1 → out ≡ take i (mirrored p C) ++ drop i D → take (p + 1) out ≡ mirrored p C
-mirrored-all p i C D out e eo =
-    let l : length (mirrored p C) ≡ p + 1 = mirrored-length p C ∙ omega arith in
-    let t : take i (mirrored p C) ≡ mirrored p C = take_all i (mirrored p C) (omega arith) in
-    ap (take (p + 1)) (eo ∙ ap (λ (u : List ℕ). u ++ drop i D) t) ∙ take_at (mirrored p C) (drop i D) (p + 1) l
+mirrored-is zero (x ∷ C) h = refl
+mirrored-is zero [] h = absurd (omega arith)
+mirrored-is (suc p) C h =
+    let m : suc p ≡ p + 1 = omega arith in
+    let e : take (suc p + 1) C ≡ take (p + 1) C ++ (get_or C (suc p) 0 ∷ []) = take_more C (suc p) 0 h ∙ ap (λ (n : ℕ). take n C ++ (get_or C (suc p) 0 ∷ [])) m in
+    ap reverse e ∙ reverse-append (take (p + 1) C) (get_or C (suc p) 0 ∷ []) ∙ ap (λ (u : List ℕ). get_or C (suc p) 0 ∷ u) (mirrored-is p C (omega arith))

@@ -1,26 +1,16 @@
 -- Laws on lists that say nothing of plots.
 use Prim.Native.Nat.{ℕ, ◌+◌, ◌*◌, ◌-◌, ◌/◌, ◌%◌, ◌<◌, ◌≤◌}
 use native.Mathlib.Omega.{arith}
-use mathlib.Core.Path.{◌≡◌, refl, ap, ◌∙◌}
+use mathlib.Core.Path.{◌≡◌, ap, ◌∙◌}
 use mathlib.Core.List.{List, [], ◌∷◌, ◌++◌}
 use native.Mathlib.Nat.{zero-add, add-mul-mod_self_right, add-mul-div_right, mod-eq_of_lt, div-eq_of_lt}
-use lib.ListN.{length, take, drop, get_or, set, length-drop}
-use lib.Seq.{take_all, drop-cons, length-take-le, take-append-le, drop-append-le, take-append_seam, drop-append_seam}
+use lib.ListN.{length, take, drop, get_or, length-drop}
+use lib.Seq.{take_all, drop-cons, take-append-le, drop-append-le, take-append_seam, drop-append_seam}
 use lib.Dec.{lit<}
 
 -- the part from a on to the end
 pub tail-part : (s : List ℕ) (a : ℕ) → take (length s - a) (drop a s) ≡ drop a s
 tail-part s a = take_all (length s - a) (drop a s) (omega (arith, length-drop a s))
-
--- five stores fill five cells
-pub five : (s : List ℕ) (a b c d e : ℕ) → length s ≡ 5 → set (set (set (set (set s 0 a) 1 b) 2 c) 3 d) 4 e ≡ a ∷ b ∷ c ∷ d ∷ e ∷ []
-five [] a b c d e h = absurd (let z : 0 ≡ 5 = h in omega arith)
-five (x₀ ∷ []) a b c d e h = absurd (let z : ◌≡◌ {A = ℕ} 1 5 = h in omega arith)
-five (x₀ ∷ x₁ ∷ []) a b c d e h = absurd (let z : ◌≡◌ {A = ℕ} 2 5 = h in omega arith)
-five (x₀ ∷ x₁ ∷ x₂ ∷ []) a b c d e h = absurd (let z : ◌≡◌ {A = ℕ} 3 5 = h in omega arith)
-five (x₀ ∷ x₁ ∷ x₂ ∷ x₃ ∷ []) a b c d e h = absurd (let z : ◌≡◌ {A = ℕ} 4 5 = h in omega arith)
-five (x₀ ∷ x₁ ∷ x₂ ∷ x₃ ∷ x₄ ∷ []) a b c d e h = refl
-five (x₀ ∷ x₁ ∷ x₂ ∷ x₃ ∷ x₄ ∷ x₅ ∷ s) a b c d e h = absurd (let z : 6 + length s ≡ 5 = omega (arith, h) in omega arith)
 
 -- the first five elements, and the rest
 pub front_five : (s : List ℕ) → 5 ≤ length s → s ≡ (get_or s 0 0 ∷ get_or s 1 0 ∷ get_or s 2 0 ∷ get_or s 3 0 ∷ get_or s 4 0 ∷ []) ++ drop 5 s
@@ -37,12 +27,6 @@ low_byte lo hi h = add-mul-mod_self_right lo hi 256 ∙ mod-eq_of_lt h
 
 pub high_byte : (lo hi : ℕ) → lo < 256 → (lo + hi * 256) / 256 ≡ hi
 high_byte lo hi h = add-mul-div_right lo hi {z = 256} (lit< tt) ∙ ap (λ (n : ℕ). n + hi) (div-eq_of_lt h) ∙ zero-add hi
-
--- the length of a part
-pub part-size : (s : List ℕ) (a k : ℕ) → a + k ≤ length s → length (take (a + k - a) (drop a s)) ≡ k
-part-size s a k h =
-    let z : a + k - a ≡ k = omega arith in
-    rw z (length-take-le k (drop a s) (omega (arith, length-drop a s)))
 
 -- a part that lies within the first of two lists
 pub part-front : (a len : ℕ) (x y : List ℕ) → a + len ≤ length x → take len (drop a (x ++ y)) ≡ take len (drop a x)

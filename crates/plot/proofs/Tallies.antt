@@ -4,11 +4,11 @@ use native.Mathlib.Omega.{arith}
 use native.Mathlib.Nat.{le_refl}
 use mathlib.Core.Path.{◌≡◌, refl, sym, ap, ◌∙◌}
 use mathlib.Core.List.{List, [], ◌∷◌, ◌++◌}
+use Rattle.std.specs.Prelude.{Some, Ok}
 use lib.ListN.{length, take, drop, take-append-drop}
 use lib.Seq.{drop-drop}
 use Rattle.plot.specs.declared.Line.{Line}
-use Rattle.plot.specs.declared.Cursor.{Cursor}
-use Rattle.plot.specs.declared.Step.TheVariants.{Record}
+use Rattle.plot.specs.declared.Record.{Record}
 use Rattle.plot.specs.Layout.{header_length, line_of, tallies, tallies_of}
 use Rattle.plot.specs.Grammar.{step_at}
 use Rattle.plot.proofs.Cases.{bounds, past_header}
@@ -47,11 +47,11 @@ tallies_prefix (suc k) (x ∷ y ∷ z ∷ l) r h =
     ap (λ (ls : List Line). record { species = x; class = y; count = z } ∷ ls) (tallies_prefix k l r (omega arith))
 
 -- the record at the place `at`
-pub tallies-here : (s : List ℕ) (at last from count : ℕ) (next : Cursor) (e : step_at at (drop at s) ≡ Record from count next)
-    → tallies_of (here at last (drop at s) from count next e) ≡ tallies count (drop from s)
-tallies-here s at last from count next e =
+pub tallies-here : (s : List ℕ) (at last : ℕ) (rec : Record) (e : step_at at (drop at s) ≡ Ok (Some rec))
+    → tallies_of (here at last (drop at s) rec e) ≡ tallies rec.count (drop rec.lines s)
+tallies-here s at last rec e =
     let d = drop header_length (drop at s) in
-    let k = lines-here at last (drop at s) from count next e in
-    ap (λ (n : ℕ). tallies n (take (count * 3) d)) (count_here at last (drop at s) from count next e)
-    ∙ sym (tallies_prefix count (take (count * 3) d) (drop (count * 3) d) (rw k (le_refl _)))
-    ∙ ap (tallies count) (take-append-drop (count * 3) d ∙ past_header at from s (bounds s at last 0 from count next e).lines_at)
+    let k = lines-here at last (drop at s) rec e in
+    ap (λ (n : ℕ). tallies n (take (rec.count * 3) d)) (count_here at last (drop at s) rec e)
+    ∙ sym (tallies_prefix rec.count (take (rec.count * 3) d) (drop (rec.count * 3) d) (rw k (le_refl _)))
+    ∙ ap (tallies rec.count) (take-append-drop (rec.count * 3) d ∙ past_header at rec.lines s (bounds s at last 0 rec e).lines_at)

@@ -1,14 +1,12 @@
 -- The grammar of a payload (R1, R2), once: what stands at a place, and the reading of all records from a place on.
 -- Checking, asking and adding are equations with `reading`. A list s of bytes is the payload from the place `at` on.
-use Rattle.std.specs.Prelude.{ℕ, zero, suc, ◌+◌, ◌*◌, ◌≡◌, Bool, true, false, not, List, [], ◌∷◌, length, get_or, take, drop, ltb, leb, eqb}
+use Rattle.std.specs.Prelude.{ℕ, zero, suc, ◌+◌, ◌*◌, ◌≡◌, Bool, true, false, not, Option, Some, None, Result, Ok, Err, List, [], ◌∷◌, length, get_or, take, drop, ltb, leb, eqb}
 use Rattle.lists.specs.Choice.{pick}
-use Rattle.plot.specs.Layout.{Plot, mark, header_length, plot_of, count_of, record_length, no_line, lines_check, lines_hold}
-use Rattle.plot.specs.declared.LineCheck.TheVariants.{Holds}
-use Rattle.plot.specs.declared.LinesCheck.{LinesCheck}
+use Rattle.plot.specs.Layout.{Plot, mark, header_length, plot_of, count_of, record_length, no_line, lines_check}
+use Rattle.plot.specs.declared.BadLine.{BadLine}
 use Rattle.plot.specs.declared.Refusal.{Refusal}
 use Rattle.plot.specs.declared.Refusal.TheVariants.{WrongLength, BadMark, CutShort, BadTally, PlotOrder}
-use Rattle.plot.specs.declared.Step.{Step}
-use Rattle.plot.specs.declared.Step.TheVariants.{Record, End, Refused}
+use Rattle.plot.specs.declared.Record.{Record}
 
 -- every byte of the list is zero
 unfoldable pub all_zero : List ℕ → Bool
@@ -22,37 +20,51 @@ agree (m ∷ ms) [] = true
 agree (m ∷ ms) (x ∷ s) = pick (eqb x m) (agree ms s) false
 
 -- a bad tally in a line: "beside number 7, with the line's index from 0"
-abbrev pub bad_line : ℕ → LinesCheck → Refusal
-bad_line place found = BadTally place found.check found.index
+abbrev pub bad_line : ℕ → BadLine → Refusal
+bad_line place found = BadTally place (Some found)
 
 -- and "For faults outside a line both are 0."
 abbrev pub outside_line : ℕ → Refusal
-outside_line place = BadTally place Holds 0
+outside_line place = BadTally place None
+
+-- what stands at a place in the payload: a record whose checks before the lines hold, with the place and number of its lines and the place after it;
+-- zero bytes to the end; or the refusal of the first failing check
+abbrev pub Step : Type 0
+Step = Result (Option Record) Refusal
 
 -- "the checks are, in order: as much of the mark as the payload holds; the five header bytes are there; at most 40 lines; all lines are there; plot
 -- number not 0": the checks of a record before its lines
 unfoldable pub head_at : ℕ → List ℕ → Step
 head_at at s =
-    pick (not (agree mark s)) (Refused (BadMark at))
-    (pick (ltb (length s) header_length) (Refused (CutShort at))
-    (pick (ltb 40 (count_of s)) (Refused (outside_line at))
-    (pick (ltb (length s) (record_length (count_of s))) (Refused (CutShort at))
-    (pick (eqb (plot_of s) 0) (Refused (outside_line at))
-    (Record (at + header_length) (count_of s) (record { at = at + record_length (count_of s); last = plot_of s }))))))
+    pick (not (agree mark s)) (Err (BadMark at))
+    (pick (ltb (length s) header_length) (Err (CutShort at))
+    (pick (ltb 40 (count_of s)) (Err (outside_line at))
+    (pick (ltb (length s) (record_length (count_of s))) (Err (CutShort at))
+    (pick (eqb (plot_of s) 0) (Err (outside_line at))
+    (Ok (Some (record {
+      lines = at + header_length;
+      count = count_of s;
+      next = record { at = at + record_length (count_of s); last = plot_of s };
+    })))))))
 
 -- what stands at "a place in the payload": "If the byte there is zero, all later bytes must be zero. Otherwise the checks are ..": at the payload's end stands no byte, which counts as zero
 unfoldable pub step_at : ℕ → List ℕ → Step
-step_at at s = pick (eqb (get_or s 0 0) 0) (pick (all_zero s) End (Refused (BadMark at))) (head_at at s)
+step_at at s = pick (eqb (get_or s 0 0) 0) (pick (all_zero s) (Ok None) (Err (BadMark at))) (head_at at s)
 
--- ".. the lines in turn ..; rise of plot numbers. The first failing check of the first failing record ends the reading.": the last checks of a record, where `last` is the
+-- ".. the lines in turn ..", then the checks after them: the bad tally of a record at `at`, or those checks
+abbrev pub after_lines : {A : Type 0} → ℕ → Result Unit BadLine → Result A Refusal → Result A Refusal
+after_lines at (Ok u) rest = rest
+after_lines at (Err found) rest = Err (bad_line at found)
+
+-- ".. rise of plot numbers. The first failing check of the first failing record ends the reading.": the last checks of a record, where `last` is the
 -- number of the plot before it
 unfoldable pub late_checked : ℕ → ℕ → List ℕ → Step → Step
-late_checked at last s End = End
-late_checked at last s (Refused r) = Refused r
-late_checked at last s (Record from count next) =
-    pick (not (lines_hold no_line count (drop header_length s))) (Refused (bad_line at (lines_check no_line 0 count (drop header_length s))))
-    (pick (leb next.last last) (Refused (PlotOrder at))
-    (Record from count next))
+late_checked at last s (Err r) = Err r
+late_checked at last s (Ok None) = Ok None
+late_checked at last s (Ok (Some rec)) =
+    after_lines at (lines_check no_line 0 rec.count (drop header_length s))
+    (pick (leb rec.next.last last) (Err (PlotOrder at))
+    (Ok (Some rec)))
 
 -- what stands at a place, with every check of its record made
 abbrev pub record_at : ℕ → ℕ → List ℕ → Step
@@ -70,10 +82,10 @@ onto p (Stopped r) = Stopped r
 
 -- what stands at the place, every check of its record made, then `rest` for the records after it
 unfoldable pub read_step : (ℕ → ℕ → List ℕ → Parsed) → ℕ → List ℕ → Step → Parsed
-read_step rest at s End = Plots [] at
-read_step rest at s (Refused r) = Stopped r
-read_step rest at s (Record from count next) =
-    onto (record { number = next.last; lines = take (count * 3) (drop header_length s) }) (rest next.at next.last (drop (record_length count) s))
+read_step rest at s (Err r) = Stopped r
+read_step rest at s (Ok None) = Plots [] at
+read_step rest at s (Ok (Some rec)) =
+    onto (record { number = rec.next.last; lines = take (rec.count * 3) (drop header_length s) }) (rest rec.next.at rec.next.last (drop (record_length rec.count) s))
 
 -- "A place in the payload moves on one record at a time." A record takes five bytes or more: as many steps as bytes are enough.
 unfoldable pub read_from : ℕ → ℕ → ℕ → List ℕ → Parsed

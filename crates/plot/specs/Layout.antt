@@ -1,12 +1,13 @@
 -- The bytes of one record (R1): mark, plot number, number of lines, lines of three bytes; and the check of its lines (R2; document 02, Note 2). A later edition of
 -- the record changes this file.
 -- A list of bytes given to a reading here begins at the record's first byte, or at a line's where lines are read.
-use Rattle.std.specs.Prelude.{ℕ, zero, suc, ◌+◌, ◌*◌, ◌/◌, ◌%◌, Bool, true, false, not, List, [], ◌∷◌, ◌++◌, length, get_or, drop, ltb, leb, eqb}
+use Rattle.std.specs.Prelude.{ℕ, zero, suc, ◌+◌, ◌*◌, ◌/◌, ◌%◌, Bool, true, false, not, Result, Ok, Err, is_ok, List, [], ◌∷◌, ◌++◌, length, get_or, drop, ltb, leb, eqb}
 use Rattle.lists.specs.Choice.{pick}
+use Rattle.answers.specs.Numbers.{or_zero}
 use Rattle.plot.specs.declared.Line.{Line}
-use Rattle.plot.specs.declared.LineCheck.{LineCheck}
-use Rattle.plot.specs.declared.LineCheck.TheVariants.{Holds, Species, Class, Count, Order}
-use Rattle.plot.specs.declared.LinesCheck.{LinesCheck}
+use Rattle.plot.specs.declared.LineFault.{LineFault}
+use Rattle.plot.specs.declared.LineFault.TheVariants.{Species, Class, Count, Order}
+use Rattle.plot.specs.declared.BadLine.{BadLine}
 
 -- "the two-byte mark 50 4C (hexadecimal)"
 abbrev pub mark : List ℕ
@@ -48,37 +49,40 @@ rises before line =
 
 -- the check of one line, "by species, class, count and then its rise": "species number 1 to 99, diameter class 1 to 200 .., tree count 1 to 255". It "says what
 -- failed first"
-unfoldable pub line_check : Line → Line → LineCheck
+unfoldable pub line_check : Line → Line → Result Unit LineFault
 line_check before line =
-    pick (not (within 1 99 line.species)) Species
-    (pick (not (within 1 200 line.class)) Class
-    (pick (not (within 1 255 line.count)) Count
-    (pick (not (rises before line)) Order Holds)))
+    pick (not (within 1 99 line.species)) (Err Species)
+    (pick (not (within 1 200 line.class)) (Err Class)
+    (pick (not (within 1 255 line.count)) (Err Count)
+    (pick (not (rises before line)) (Err Order) (Ok tt))))
 
--- "1 species, 2 class, 3 count, 4 the rise above the line before", and 0 where the line holds
-abbrev pub figure_number : LineCheck → ℕ
-figure_number Holds = 0
-figure_number Species = 1
-figure_number Class = 2
-figure_number Count = 3
-figure_number Order = 4
+-- "1 species, 2 class, 3 count, 4 the rise above the line before" ..
+abbrev pub fault_number : LineFault → ℕ
+fault_number Species = 1
+fault_number Class = 2
+fault_number Count = 3
+fault_number Order = 4
 
-abbrev pub holds : LineCheck → Bool
-holds check = eqb (figure_number check) 0
+-- .. and 0 where the line holds
+abbrev pub figure_number : Result Unit LineFault → ℕ
+figure_number = or_zero fault_number
 
 abbrev pub line_holds : Line → Line → Bool
-line_holds before line = holds (line_check before line)
+line_holds before line = is_ok (line_check before line)
 
--- "the lines in turn": `count` lines from the front of s on, after the line `before`, the first of them with the index i: the check of the first line that does not
--- hold, "with the line's index from 0"; `Holds` and 0 where all hold
-unfoldable pub lines_check : Line → ℕ → ℕ → List ℕ → LinesCheck
-lines_check before i zero s = record { check = Holds; index = 0 }
-lines_check before i (suc count) s =
-    pick (line_holds before (line_of s)) (lines_check (line_of s) (suc i) count (drop 3 s)) (record { check = line_check before (line_of s); index = i })
+-- the check of the line with the index i, and then that of the lines after it: the first line that does not hold, "with the line's index from 0"
+abbrev pub line_then : ℕ → Result Unit LineFault → Result Unit BadLine → Result Unit BadLine
+line_then i (Ok u) rest = rest
+line_then i (Err fault) rest = Err (record { fault = fault; index = i })
+
+-- "the lines in turn": `count` lines from the front of s on, after the line `before`, the first of them with the index i
+unfoldable pub lines_check : Line → ℕ → ℕ → List ℕ → Result Unit BadLine
+lines_check before i zero s = Ok tt
+lines_check before i (suc count) s = line_then i (line_check before (line_of s)) (lines_check (line_of s) (suc i) count (drop 3 s))
 
 -- all of them hold
 unfoldable pub lines_hold : Line → ℕ → List ℕ → Bool
-lines_hold before count s = holds (lines_check before 0 count s).check
+lines_hold before count s = is_ok (lines_check before 0 count s)
 
 -- a plot: its number, and the bytes of its lines, three a line
 pub record Plot : Type 0 where

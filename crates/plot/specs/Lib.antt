@@ -3,3 +3,4 @@ pub mod Grammar
 pub mod Answers
 pub mod Numbers
 pub mod Sheets
+pub mod NewPlot

@@ -3,238 +3,177 @@
 
 #![tactic(auto)]
 
+mod layout;
 mod numbers;
-mod record;
 mod tally;
 
 ghost use Rattle.std.specs.Prelude.{◌≡◌, ◌+◌, ◌≤◌, drop};
 ghost use Rattle.plot.specs.Grammar.{step_at, record_at, reading, Readable};
 ghost use Rattle.plot.specs.Answers.{checked, located, asked, room_for, added, payload_with};
 ghost use Rattle.plot.specs.Numbers.{located_start};
+ghost use Rattle.plot.specs.NewPlot.{new_plot};
 
-use record::{HEADER, all_zero, head, put_record};
-use tally::{NO_LINE, check_line, check_lines, line_at};
+use layout::{HEADER, NewPlot, all_zero, head, put_record};
+pub use numbers::LineAtFault;
+use tally::{NO_LINE, check_line, check_lines};
 
 /// The longest payload, in bytes.
 pub const LONGEST: usize = 4048;
 
 /// Document 01's "place in the payload", with the number of the last plot before it (0 if there is none).
-#[derive(Clone, Copy)]
+#[derive(Clone, Copy, Debug, PartialEq, Eq)]
 pub struct Cursor {
     pub at: usize,
     pub last: u16,
 }
 
 /// A tally line: its species number, its diameter class in centimetres and its tree count.
-#[derive(Clone, Copy)]
+#[derive(Clone, Copy, Debug, PartialEq, Eq)]
 pub struct Line {
     pub species: u8,
     pub class: u8,
     pub count: u8,
 }
 
-/// What the check of one line finds first: nothing, or the value that fails, or the rise above the line before.
-#[derive(Clone, Copy)]
-pub enum LineCheck {
-    Holds,
+/// What fails first in a line: a value out of its range, or the rise above the line before.
+#[derive(Clone, Copy, Debug, PartialEq, Eq)]
+pub enum LineFault {
     Species,
     Class,
     Count,
     Order,
 }
 
-/// What the check of lines in turn finds: the check of the first line that fails and its index from 0, or `Holds` and 0.
-#[derive(Clone, Copy)]
-pub struct LinesCheck {
-    pub check: LineCheck,
+/// The first line of a record that fails: what fails first in it, and its index from 0.
+#[derive(Clone, Copy, Debug, PartialEq, Eq)]
+pub struct BadLine {
+    pub fault: LineFault,
     pub index: usize,
 }
 
 /// A refusal. Document 01 calls them wrong frame, bad mark, cut short, bad tally, plot order, no such plot and full; each has its place, but for
-/// wrong frame and no such plot, whose place is 0. A bad tally has what failed in the line at fault and that line's index in its record; `Holds`
-/// and 0 where the fault is outside a line.
-#[derive(Clone, Copy)]
+/// wrong frame and no such plot, whose place is 0. A bad tally has the line at fault, or `None` where the fault is outside a line.
+#[derive(Clone, Copy, Debug, PartialEq, Eq)]
 pub enum Refusal {
     WrongLength,
     BadMark(usize),
     CutShort(usize),
-    BadTally {
-        place: usize,
-        check: LineCheck,
-        index: usize,
-    },
+    BadTally { place: usize, line: Option<BadLine> },
     PlotOrder(usize),
     NoSuchPlot,
     Full(usize),
 }
 
-/// What stands at a place in the payload: a record whose checks before the lines hold, with the place and number of its lines and the place after
-/// it; zero bytes to the end; or the refusal of the first failing check.
-#[derive(Clone, Copy)]
-pub enum Step {
-    Record {
-        lines: usize,
-        count: usize,
-        next: Cursor,
-    },
-    End,
-    Refused(Refusal),
+/// A record whose checks before the lines hold: the place and the number of its lines, and the cursor after it, which has its plot number.
+#[derive(Clone, Copy, Debug, PartialEq, Eq)]
+pub struct Record {
+    pub lines: usize,
+    pub count: usize,
+    pub next: Cursor,
 }
 
-/// What checking a payload answers: the place after the last record, or the refusal that ended the reading.
-#[derive(Clone, Copy)]
-pub enum Checked {
-    Accepted(Cursor),
-    Refused(Refusal),
-}
-
-/// What the companion entry of asking for a plot answers: the record's first byte and its length, or the refusal.
-#[derive(Clone, Copy)]
-pub enum Located {
-    At { start: usize, len: usize },
-    Refused(Refusal),
-}
-
-/// What adding a plot answers: the record's first byte, or the refusal.
-#[derive(Clone, Copy)]
-pub enum Added {
-    At(usize),
-    Refused(Refusal),
+/// Where a record lies in the payload: its first byte and its length.
+#[derive(Clone, Copy, Debug, PartialEq, Eq)]
+pub struct Place {
+    pub start: usize,
+    pub length: usize,
 }
 
 impl Cursor {
-    /// Moves on one record: what stands at this place, with the place after it.
-    pub fn next(self, payload: &[u8]) -> Step
+    /// Moves on one record: the one that stands at this place, or `None` where zero bytes go to the end.
+    pub fn next(self, payload: &[u8]) -> Result<Option<Record>, Refusal>
         ensures { result ≡ step_at self.at (drop self.at payload.now) }
     {
         let at = self.at;
         if payload.len() <= at {
-            return Step::End;
+            return Ok(None);
         }
         if payload[at] != 0 {
             return head(&payload[at..], at);
         }
         if all_zero(&payload[at..]) {
-            return Step::End;
+            return Ok(None);
         }
-        Step::Refused(Refusal::BadMark(at))
+        Err(Refusal::BadMark(at))
     }
 
     /// Moves on one record with every check of it made, its lines and its number too.
-    pub fn next_checked(self, payload: &[u8]) -> Step
+    pub fn next_checked(self, payload: &[u8]) -> Result<Option<Record>, Refusal>
         ensures { result ≡ record_at self.at self.last (drop self.at payload.now) }
     {
-        match self.next(payload) {
-            Step::Record { lines, count, next } => {
-                let end = lines + count * 3;
-                let found = check_lines(&payload[lines..end]);
-                let check = found.check;
-                if check.figure() != 0 {
-                    return Step::Refused(Refusal::BadTally {
-                        place: self.at,
-                        check,
-                        index: found.index,
-                    });
-                }
-                if next.last <= self.last {
-                    return Step::Refused(Refusal::PlotOrder(self.at));
-                }
-                Step::Record { lines, count, next }
-            }
-            Step::End => Step::End,
-            Step::Refused(r) => Step::Refused(r),
+        let Some(found) = self.next(payload)? else {
+            return Ok(None);
+        };
+        if let Err(bad) = check_lines(&payload[found.lines..found.next.at]) {
+            return Err(Refusal::BadTally {
+                place: self.at,
+                line: Some(bad),
+            });
         }
+        if found.next.last <= self.last {
+            return Err(Refusal::PlotOrder(self.at));
+        }
+        Ok(Some(found))
     }
 }
 
-/// Checks a whole payload: records outside, lines inside; the first failing check of the first failing record leaves both.
-pub fn check(payload: &[u8]) -> Checked
+/// Checks a whole payload, and gives the place after its last record: records outside, lines inside; the first failing check of the first failing
+/// record leaves both.
+pub fn check(payload: &[u8]) -> Result<Cursor, Refusal>
     ensures { result ≡ checked payload.now }
 {
     if LONGEST < payload.len() {
-        return Checked::Refused(Refusal::WrongLength);
+        return Err(Refusal::WrongLength);
     }
     let mut c = Cursor { at: 0, last: 0 };
-    let mut answer = Checked::Accepted(c);
-    'records: loop {
-        match c.next(payload) {
-            Step::Record { lines, count, next } => {
-                let mut before = NO_LINE;
-                let mut i = 0;
-                while i < count {
-                    let line = line_at(payload, lines + i * 3);
-                    let check = check_line(before, line);
-                    if check.figure() != 0 {
-                        answer = Checked::Refused(Refusal::BadTally {
-                            place: c.at,
-                            check,
-                            index: i,
-                        });
-                        break 'records;
-                    }
-                    before = line;
-                    i += 1;
-                }
-                if next.last <= c.last {
-                    answer = Checked::Refused(Refusal::PlotOrder(c.at));
-                    break 'records;
-                }
-                c = next;
+    let refusal = 'records: loop {
+        let Some(found) = c.next(payload)? else {
+            return Ok(c);
+        };
+        let mut before = NO_LINE;
+        let lines = &payload[found.lines..found.next.at];
+        for (index, bytes) in lines.chunks_exact(3).enumerate() {
+            let line = Line::from_bytes(bytes);
+            if let Err(fault) = check_line(before, line) {
+                break 'records Refusal::BadTally {
+                    place: c.at,
+                    line: Some(BadLine { fault, index }),
+                };
             }
-            Step::End => {
-                answer = Checked::Accepted(c);
-                break 'records;
-            }
-            Step::Refused(r) => {
-                answer = Checked::Refused(r);
-                break 'records;
-            }
+            before = line;
         }
-    }
-    answer
+        if found.next.last <= c.last {
+            break 'records Refusal::PlotOrder(c.at);
+        }
+        c = found.next;
+    };
+    Err(refusal)
 }
 
 // The record of `plot` in an accepted payload.
-fn search(payload: &[u8], plot: u16) -> Located
+fn search(payload: &[u8], plot: u16) -> Result<Place, Refusal>
     requires { Readable (reading payload.now) }
     ensures { result ≡ located plot payload.now }
 {
     let mut c = Cursor { at: 0, last: 0 };
-    loop {
-        match c.next(payload) {
-            Step::Record {
-                lines: _,
-                count: _,
-                next,
-            } => {
-                if next.last == plot {
-                    let start = c.at;
-                    let end = next.at;
-                    return Located::At {
-                        start,
-                        len: end - start,
-                    };
-                }
-                c = next;
-            }
-            Step::End => {
-                return Located::Refused(Refusal::NoSuchPlot);
-            }
-            Step::Refused(r) => {
-                return Located::Refused(r);
-            }
+    while let Some(found) = c.next(payload)? {
+        if found.next.last == plot {
+            return Ok(Place {
+                start: c.at,
+                length: found.next.at - c.at,
+            });
         }
+        c = found.next;
     }
+    Err(Refusal::NoSuchPlot)
 }
 
 /// The companion entry of asking for a plot: where its record lies, or why there is none.
-pub fn locate(payload: &[u8], plot: u16) -> Located
+pub fn locate(payload: &[u8], plot: u16) -> Result<Place, Refusal>
     ensures { result ≡ located plot payload.now }
 {
-    match check(payload) {
-        Checked::Accepted(_) => search(payload, plot),
-        Checked::Refused(r) => Located::Refused(r),
-    }
+    check(payload)?;
+    search(payload, plot)
 }
 
 /// Asks for a plot: its record, mark to last line, as a part of the payload and not as a copy; empty after a refusal.
@@ -243,70 +182,66 @@ pub fn ask<'a>(payload: &'a [u8], plot: u16) -> &'a [u8]
     ensures ref_ptr_value { (result.ref_ptr.0 ≡ payload.entry.ref_ptr.0) × (result.ref_ptr.1 ≡ payload.entry.ref_ptr.1 + located_start (located plot payload.now)) }
 {
     match locate(payload, plot) {
-        Located::At { start, len } => &payload[start..start + len],
-        Located::Refused(_) => &payload[..0],
+        Ok(place) => &payload[place.start..place.start + place.length],
+        Err(_) => &payload[..0],
     }
 }
 
 // Where a plot would be added to an accepted payload of `size` bytes, c being the cursor after its last record; or why it is not.
-fn room(size: usize, c: Cursor, plot: u16, lines: &[u8]) -> Added
+fn room(size: usize, c: Cursor, plot: NewPlot) -> Result<usize, Refusal>
     requires { c.at ≤ size }
-    ensures { result ≡ room_for size c.at c.last (record { number = plot; lines = lines.now }) }
+    ensures { result ≡ room_for size c.at c.last (new_plot plot.entry) }
 {
     let at = c.at;
+    let lines = plot.lines;
     // A bad tally outside a line.
     let outside = Refusal::BadTally {
         place: at,
-        check: LineCheck::Holds,
-        index: 0,
+        line: None,
     };
     if 120 < lines.len() {
-        return Added::Refused(outside);
+        return Err(outside);
     }
     if lines.len() % 3 != 0 {
-        return Added::Refused(outside);
+        return Err(outside);
     }
-    if plot == 0 {
-        return Added::Refused(outside);
+    if plot.number == 0 {
+        return Err(outside);
     }
-    let found = check_lines(lines);
-    let check = found.check;
-    if check.figure() != 0 {
-        return Added::Refused(Refusal::BadTally {
+    if let Err(bad) = check_lines(lines) {
+        return Err(Refusal::BadTally {
             place: at,
-            check,
-            index: found.index,
+            line: Some(bad),
         });
     }
-    if plot <= c.last {
-        return Added::Refused(Refusal::PlotOrder(at));
+    if plot.number <= c.last {
+        return Err(Refusal::PlotOrder(at));
     }
     if size - at < HEADER + lines.len() {
-        return Added::Refused(Refusal::Full(at));
+        return Err(Refusal::Full(at));
     }
-    Added::At(at)
+    Ok(at)
 }
 
 // Where a plot would be added, or why it is not.
-fn place_for(payload: &[u8], plot: u16, lines: &[u8]) -> Added
-    ensures { result ≡ added (record { number = plot; lines = lines.now }) payload.now }
+fn place_for(payload: &[u8], plot: NewPlot) -> Result<usize, Refusal>
+    ensures { result ≡ added (new_plot plot.entry) payload.now }
 {
-    match check(payload) {
-        Checked::Accepted(c) => room(payload.len(), c, plot, lines),
-        Checked::Refused(r) => Added::Refused(r),
-    }
+    let c = check(payload)?;
+    room(payload.len(), c, plot)
 }
 
-/// Adds a plot: writes its record right after the last record. After a refusal the payload is as it was.
-pub fn add(payload: &mut [u8], plot: u16, lines: &[u8]) -> Added
+/// Adds a plot: writes its record right after the last record, and gives its first byte. After a refusal the payload is as it was.
+pub fn add(payload: &mut [u8], plot: u16, lines: &[u8]) -> Result<usize, Refusal>
     ensures value { result ≡ added (record { number = plot; lines = lines.now }) payload.old }
     ensures payload_after { payload.new ≡ payload_with (record { number = plot; lines = lines.now }) payload.old }
 {
-    let answer = place_for(payload, plot, lines);
-    let Added::At(start) = answer else {
-        return answer;
+    let new = NewPlot {
+        number: plot,
+        lines,
     };
+    let start = place_for(payload, new)?;
     let end = start + (HEADER + lines.len());
-    put_record(&mut payload[start..end], plot, lines);
-    answer
+    put_record(&mut payload[start..end], new);
+    Ok(start)
 }

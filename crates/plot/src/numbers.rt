@@ -1,266 +1,114 @@
-// Each answer as the number, the place and the values of document 01, and the figure and the line's index of document 02 (specs/Numbers.antt). An
-// accepted answer has the number 0, and a value that an answer does not have is 0.
-ghost use Rattle.std.specs.Prelude.{◌≡◌};
-ghost use Rattle.plot.specs.Layout.{figure_number};
-ghost use Rattle.plot.specs.Numbers.{number_of, place_of, figure_of, index_of, payload_number, payload_place, payload_figure, payload_index, payload_end, located_number, located_place, located_figure, located_index, located_start, located_length, added_number, added_place, added_figure, added_index, added_start};
+// The number and the place of a refusal as document 01 has them, and the figure and the index of the line at fault as document 02 does (specs/Numbers.antt).
+// Every answer has them by its refusal, and 0 where it is accepted; each is one match.
+ghost use Rattle.std.specs.Prelude.{◌≡◌, ℕ};
+ghost use Rattle.answers.specs.Numbers.{or_zero};
+ghost use Rattle.plot.specs.Layout.{fault_number};
+ghost use Rattle.plot.specs.Numbers.{number_of as refusal_number, place_of as refusal_place, figure_of as refusal_figure, index_of as refusal_index};
 
-use crate::{Added, Checked, LineCheck, Located, Refusal};
+use crate::{LineFault, Refusal};
+use answers::Numbered;
 
-impl LineCheck {
-    /// Its number: 1 species, 2 class, 3 count, 4 the rise above the line before; 0 where the line holds.
+/// What may have a line at fault.
+pub trait LineAtFault {
+    ghost figure_of: { Self → ℕ };
+
+    ghost index_of: { Self → ℕ };
+
+    /// The figure of the first bad value in the first bad line, 1 to 4; 0 where there is no such line.
+    fn figure(&self) -> u8
+        ensures { result ≡ figure_of self.now };
+
+    /// The index of that line in its record, from 0; 0 where there is no such line.
+    fn index(&self) -> usize
+        ensures { result ≡ index_of self.now };
+}
+
+impl LineFault {
+    /// Its figure: 1 species, 2 class, 3 count, 4 the rise above the line before.
     pub fn figure(self) -> u8
-        ensures { result ≡ figure_number self }
+        ensures { result ≡ fault_number self }
     {
         match self {
-            LineCheck::Holds => 0,
-            LineCheck::Species => 1,
-            LineCheck::Class => 2,
-            LineCheck::Count => 3,
-            LineCheck::Order => 4,
+            LineFault::Species => 1,
+            LineFault::Class => 2,
+            LineFault::Count => 3,
+            LineFault::Order => 4,
         }
     }
 }
 
-impl Refusal {
-    /// The number of the refusal, 2 or 5 to 10.
-    pub fn number(self) -> u8
-        ensures { result ≡ number_of self }
-    {
+impl Numbered for Refusal {
+    ghost number_of = { refusal_number };
+
+    ghost place_of = { refusal_place };
+
+    fn number(&self) -> u8 {
         match self {
             Refusal::WrongLength => 2,
             Refusal::BadMark(_) => 5,
             Refusal::CutShort(_) => 6,
-            Refusal::BadTally {
-                place: _,
-                check: _,
-                index: _,
-            } => 7,
+            Refusal::BadTally { .. } => 7,
             Refusal::PlotOrder(_) => 8,
             Refusal::NoSuchPlot => 9,
             Refusal::Full(_) => 10,
         }
     }
 
-    /// Its place: the first byte of the record at fault, or of the record that is not added; else 0.
-    pub fn place(self) -> usize
-        ensures { result ≡ place_of self }
-    {
+    fn place(&self) -> usize {
         match self {
             Refusal::WrongLength => 0,
-            Refusal::BadMark(p) => p,
-            Refusal::CutShort(p) => p,
-            Refusal::BadTally {
-                place,
-                check: _,
-                index: _,
-            } => place,
-            Refusal::PlotOrder(p) => p,
+            Refusal::BadMark(place) => *place,
+            Refusal::CutShort(place) => *place,
+            Refusal::BadTally { place, .. } => *place,
+            Refusal::PlotOrder(place) => *place,
             Refusal::NoSuchPlot => 0,
-            Refusal::Full(p) => p,
-        }
-    }
-
-    /// The figure of the first bad value in the first bad line, 1 to 4; 0 for a fault outside a line.
-    pub fn figure(self) -> u8
-        ensures { result ≡ figure_of self }
-    {
-        match self {
-            Refusal::WrongLength => 0,
-            Refusal::BadMark(_) => 0,
-            Refusal::CutShort(_) => 0,
-            Refusal::BadTally {
-                place: _,
-                check,
-                index: _,
-            } => check.figure(),
-            Refusal::PlotOrder(_) => 0,
-            Refusal::NoSuchPlot => 0,
-            Refusal::Full(_) => 0,
-        }
-    }
-
-    /// The index of that line in its record, from 0; 0 for a fault outside a line.
-    pub fn index(self) -> usize
-        ensures { result ≡ index_of self }
-    {
-        match self {
-            Refusal::WrongLength => 0,
-            Refusal::BadMark(_) => 0,
-            Refusal::CutShort(_) => 0,
-            Refusal::BadTally {
-                place: _,
-                check: _,
-                index,
-            } => index,
-            Refusal::PlotOrder(_) => 0,
-            Refusal::NoSuchPlot => 0,
-            Refusal::Full(_) => 0,
+            Refusal::Full(place) => *place,
         }
     }
 }
 
-impl Checked {
-    /// 0, or the number of the refusal.
-    pub fn number(self) -> u8
-        ensures { result ≡ payload_number self }
-    {
+impl LineAtFault for Refusal {
+    ghost figure_of = { refusal_figure };
+
+    ghost index_of = { refusal_index };
+
+    fn figure(&self) -> u8 {
         match self {
-            Checked::Accepted(_) => 0,
-            Checked::Refused(r) => r.number(),
+            Refusal::BadTally {
+                line: Some(bad),
+                ..
+            } => bad.fault.figure(),
+            _ => 0,
         }
     }
 
-    /// The place of the refusal.
-    pub fn place(self) -> usize
-        ensures { result ≡ payload_place self }
-    {
+    fn index(&self) -> usize {
         match self {
-            Checked::Accepted(_) => 0,
-            Checked::Refused(r) => r.place(),
-        }
-    }
-
-    /// The figure of the line at fault.
-    pub fn figure(self) -> u8
-        ensures { result ≡ payload_figure self }
-    {
-        match self {
-            Checked::Accepted(_) => 0,
-            Checked::Refused(r) => r.figure(),
-        }
-    }
-
-    /// The index of the line at fault.
-    pub fn index(self) -> usize
-        ensures { result ≡ payload_index self }
-    {
-        match self {
-            Checked::Accepted(_) => 0,
-            Checked::Refused(r) => r.index(),
-        }
-    }
-
-    /// The byte after the last record.
-    pub fn end(self) -> usize
-        ensures { result ≡ payload_end self }
-    {
-        match self {
-            Checked::Accepted(c) => c.at,
-            Checked::Refused(_) => 0,
+            Refusal::BadTally {
+                line: Some(bad),
+                ..
+            } => bad.index,
+            _ => 0,
         }
     }
 }
 
-impl Located {
-    /// 0, or the number of the refusal.
-    pub fn number(self) -> u8
-        ensures { result ≡ located_number self }
-    {
+impl<T, E: LineAtFault> LineAtFault for Result<T, E> {
+    ghost figure_of = { or_zero E.figure_of };
+
+    ghost index_of = { or_zero E.index_of };
+
+    fn figure(&self) -> u8 {
         match self {
-            Located::At { start: _, len: _ } => 0,
-            Located::Refused(r) => r.number(),
+            Ok(_) => 0,
+            Err(e) => e.figure(),
         }
     }
 
-    /// The place of the refusal.
-    pub fn place(self) -> usize
-        ensures { result ≡ located_place self }
-    {
+    fn index(&self) -> usize {
         match self {
-            Located::At { start: _, len: _ } => 0,
-            Located::Refused(r) => r.place(),
-        }
-    }
-
-    /// The figure of the line at fault.
-    pub fn figure(self) -> u8
-        ensures { result ≡ located_figure self }
-    {
-        match self {
-            Located::At { start: _, len: _ } => 0,
-            Located::Refused(r) => r.figure(),
-        }
-    }
-
-    /// The index of the line at fault.
-    pub fn index(self) -> usize
-        ensures { result ≡ located_index self }
-    {
-        match self {
-            Located::At { start: _, len: _ } => 0,
-            Located::Refused(r) => r.index(),
-        }
-    }
-
-    /// The record's first byte.
-    pub fn start(self) -> usize
-        ensures { result ≡ located_start self }
-    {
-        match self {
-            Located::At { start, len: _ } => start,
-            Located::Refused(_) => 0,
-        }
-    }
-
-    /// The record's length in bytes.
-    pub fn length(self) -> usize
-        ensures { result ≡ located_length self }
-    {
-        match self {
-            Located::At { start: _, len } => len,
-            Located::Refused(_) => 0,
-        }
-    }
-}
-
-impl Added {
-    /// 0, or the number of the refusal.
-    pub fn number(self) -> u8
-        ensures { result ≡ added_number self }
-    {
-        match self {
-            Added::At(_) => 0,
-            Added::Refused(r) => r.number(),
-        }
-    }
-
-    /// The place of the refusal.
-    pub fn place(self) -> usize
-        ensures { result ≡ added_place self }
-    {
-        match self {
-            Added::At(_) => 0,
-            Added::Refused(r) => r.place(),
-        }
-    }
-
-    /// The figure of the line at fault.
-    pub fn figure(self) -> u8
-        ensures { result ≡ added_figure self }
-    {
-        match self {
-            Added::At(_) => 0,
-            Added::Refused(r) => r.figure(),
-        }
-    }
-
-    /// The index of the line at fault.
-    pub fn index(self) -> usize
-        ensures { result ≡ added_index self }
-    {
-        match self {
-            Added::At(_) => 0,
-            Added::Refused(r) => r.index(),
-        }
-    }
-
-    /// The first byte of the record that was added.
-    pub fn start(self) -> usize
-        ensures { result ≡ added_start self }
-    {
-        match self {
-            Added::At(start) => start,
-            Added::Refused(_) => 0,
+            Ok(_) => 0,
+            Err(e) => e.index(),
         }
     }
 }

@@ -3,7 +3,8 @@
 
 #![tactic(auto)]
 
-use plot::{Added, Checked, Located, Refusal};
+use answers::Numbered;
+use plot::{LineAtFault, Refusal};
 use std::io;
 
 // The text for a payload, printed.
@@ -13,18 +14,9 @@ fn list(rt: &impl Print, payload: &[u8]) -> io::Result<()> {
     rt.write_all(&out[..n])
 }
 
-fn digit(rt: &impl Print, n: usize) -> io::Result<()> {
-    let out = [(48 + n % 10) as u8];
-    rt.write_all(&out)
-}
-
-// Document 02's two numbers beside a refusal, each one digit here.
+// Document 02's two numbers beside a refusal.
 fn figure(rt: &impl Print, r: Refusal) -> io::Result<()> {
-    rt.write_all(b"figure ")?;
-    digit(rt, r.figure() as usize)?;
-    rt.write_all(b", line ")?;
-    digit(rt, r.index())?;
-    rt.write_all(b"\n")
+    println!(rt; "figure {}, line {}", r.figure(), r.index())
 }
 
 fn refuse(rt: &impl Print, r: Refusal) -> io::Result<()> {
@@ -38,24 +30,24 @@ fn refuse(rt: &impl Print, r: Refusal) -> io::Result<()> {
 fn check(rt: &impl Print, payload: &[u8]) -> io::Result<()> {
     list(rt, payload)?;
     match plot::check(payload) {
-        Checked::Accepted(_) => Ok(()),
-        Checked::Refused(r) => figure(rt, r),
+        Ok(_) => Ok(()),
+        Err(r) => figure(rt, r),
     }
 }
 
 // A plot is added, and the payload listed; or the refusal.
 fn add(rt: &impl Print, payload: &mut [u8], plot: u16, lines: &[u8]) -> io::Result<()> {
     match plot::add(payload, plot, lines) {
-        Added::At(_) => list(rt, payload),
-        Added::Refused(r) => refuse(rt, r),
+        Ok(_) => list(rt, payload),
+        Err(r) => refuse(rt, r),
     }
 }
 
 // The record of a plot, listed on its own; or the refusal.
 fn ask(rt: &impl Print, payload: &[u8], plot: u16) -> io::Result<()> {
     match plot::locate(payload, plot) {
-        Located::At { start: _, len: _ } => list(rt, plot::ask(payload, plot)),
-        Located::Refused(r) => refuse(rt, r),
+        Ok(_) => list(rt, plot::ask(payload, plot)),
+        Err(r) => refuse(rt, r),
     }
 }
 

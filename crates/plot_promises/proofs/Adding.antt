@@ -2,33 +2,33 @@
 -- plots one more and changes no other byte. On a payload that is refused it is the payload's own refusal.
 use mathlib.Core.Path.{◌≡◌, refl, sym, ap, subst, ◌∙◌}
 use mathlib.Core.Logic.{◌⊎◌, ◌↔◌, ◌≢◌, inl, inr, ⊎_elim}
-use mathlib.Core.Bool.{Bool, true, false, not}
+use mathlib.Core.Bool.{Bool, true, false}
 use mathlib.Core.List.{List, [], ◌∷◌, ◌++◌}
 use Prim.Native.Nat.{ℕ, ◌+◌, ◌-◌, ◌%◌, ◌<◌, ◌≤◌}
 use native.Mathlib.Omega.{arith}
+use Rattle.std.specs.Prelude.{Result, Ok, Err}
 use lib.ListN.{length, take, drop, get_or, length-append, length-drop, get_or-append}
 use lib.Seq.{length-take-le, get_or-take, get_or-drop, get_or-append-add}
 use lib.Dec.{ltb, eqb}
 use borrow.Author.Tests.{le-ltb, eq-eqb, ltb-true, ltb-false, eqb-true}
 use Rattle.lists.specs.Choice.{pick}
-use Rattle.lists.proofs.Test.{true_or_false, true_false}
+use Rattle.lists.proofs.Test.{true_false}
 use Rattle.plot.specs.declared.Refusal.{Refusal}
 use Rattle.plot.specs.declared.Refusal.TheVariants.{PlotOrder, Full}
-use Rattle.plot.specs.declared.Added.{Added}
-use Rattle.plot.specs.declared.Added.TheVariants.{At, Refused}
-use Rattle.plot.specs.declared.LinesCheck.{LinesCheck}
-use Rattle.plot.specs.Layout.{Plot, no_line, lines_check, lines_hold, lines_of, record_of, bytes_of}
-use Rattle.plot.specs.Grammar.{bad_line, outside_line}
+use Rattle.plot.specs.declared.BadLine.{BadLine}
+use Rattle.plot.specs.Layout.{Plot, no_line, lines_check, lines_of, record_of, bytes_of}
+use Rattle.plot.specs.Grammar.{bad_line, outside_line, after_lines}
 use Rattle.plot_promises.specs.Checks.{Check, FirstFails, NoneFails, lent_checks, room_checks, add_checks}
 use Rattle.plot_promises.specs.Figures.{BadLentHere}
-use Rattle.plot.specs.Answers.{last_number, lines_fit, room_for, added, payload_after, payload_with}
+use Rattle.plot.specs.Answers.{Added, last_number, lines_fit, room_for, added, payload_after, payload_with}
 use Rattle.plot.specs.Numbers.{payload_number, payload_place, added_number, added_place, added_start}
 use Rattle.plot_promises.specs.Canonical.{Contains}
 use Rattle.plot_promises.specs.Refusals.{AddingTo, AddingExactly}
 use Rattle.plot_promises.proofs.Checks.{first_one, not-both, first-before, first-after, all_after, Tested, unless_true, unless_most, unless_zero, choice, chosen}
 use Rattle.plot_promises.proofs.Lines.{lines_hold_iff}
-use Rattle.plot_promises.proofs.FirstBad.{not_hold_first, hold_no_first}
-use Rattle.plot_promises.proofs.Refusals.{Refuses, LineOf, in_line, in_none, AnswerRefuses, refuse, number_some, added-at, added-refused, added_unset}
+use Rattle.plot.proofs.Lines.{all_held}
+use Rattle.plot_promises.proofs.FirstBad.{found_first, hold_no_first}
+use Rattle.plot_promises.proofs.Refusals.{Refuses, LineOf, in_line, in_none, AnswerRefuses, refuse, number_some, added-at, refused_as, place_unset, value_unset}
 use Rattle.plot.proofs.Entries.{taken, added-plots, added_stopped, left_as_was}
 use Rattle.plot_promises.proofs.Canonical.{contains-fits, contains_form, contains-reads, contains_of, more-plots, write_one-more}
 use Rattle.plot_promises.proofs.Checking.{checks_stopped, stopped_of}
@@ -44,60 +44,64 @@ fit_iff lines = (by_test (ltb 120 (length lines)) refl, λ h. rw (le-ltb 120 (le
 -- the checks of an added plot, with their tests
 module _ (size end last : ℕ) (p : Plot) (inside : end ≤ size) where
   abbrev AddRefuses : Added → ℕ → Type 0
-  AddRefuses = AnswerRefuses Refused end
+  AddRefuses = AnswerRefuses end
 
   -- before the lines, and after them
   abbrev lent_tests : List (Tested AddRefuses)
   lent_tests =
-      unless_true AddRefuses 7 (Refused (outside_line end)) (refuse Refused end (outside_line end) refl (refl, refl)) (lines_fit p.lines) _ (fit_iff p.lines)
-      ∷ unless_zero AddRefuses 7 (Refused (outside_line end)) (refuse Refused end (outside_line end) refl (refl, refl)) p.number
+      unless_true AddRefuses 7 (Err (outside_line end)) (refuse end (outside_line end) refl (refl, refl)) (lines_fit p.lines) _ (fit_iff p.lines)
+      ∷ unless_zero AddRefuses 7 (Err (outside_line end)) (refuse end (outside_line end) refl (refl, refl)) p.number
       ∷ []
 
   abbrev last_tests : List (Tested AddRefuses)
   last_tests =
-      unless_most AddRefuses 8 (Refused (PlotOrder end)) (refuse Refused end (PlotOrder end) refl (refl, refl)) p.number last
+      unless_most AddRefuses 8 (Err (PlotOrder end)) (refuse end (PlotOrder end) refl (refl, refl)) p.number last
       ∷ record {
         number = 10;
         holds = end + length (record_of p) ≤ size;
         test = ltb (size - end) (length (record_of p));
-        answer = Refused (Full end);
-        answers = refuse Refused end (Full end) refl (refl, refl);
+        answer = Err (Full end);
+        answers = refuse end (Full end) refl (refl, refl);
         fails = λ e h. let l : size - end < length (record_of p) = ltb-true _ _ e in omega arith;
         passes = λ e. let l : length (record_of p) ≤ size - end = ltb-false _ _ e in omega arith;
       }
       ∷ []
 
-  abbrev found : LinesCheck
+  abbrev found : Result Unit BadLine
   found = lines_check no_line 0 (lines_of p) p.lines
 
   pub data RoomIs : Type 0 where
-    refused_by : (k : ℕ) → FirstFails (add_checks size end last p) k → (r : Refusal) → room_for size end last p ≡ Refused r → Refuses end r k → LineOf (BadLentHere p) r → RoomIs
-    taken_at : NoneFails (add_checks size end last p) → room_for size end last p ≡ At end → RoomIs
+    refused_by : (k : ℕ) → FirstFails (add_checks size end last p) k → (r : Refusal) → room_for size end last p ≡ Err r → Refuses end r k → LineOf (BadLentHere p) r → RoomIs
+    taken_at : NoneFails (add_checks size end last p) → room_for size end last p ≡ Ok end → RoomIs
 
   abbrev more : List Check
   more = room_checks size end last p
 
   abbrev rest : Added
-  rest = pick (not (lines_hold no_line (lines_of p) p.lines)) (Refused (bad_line end found)) (choice AddRefuses last_tests (At end))
+  rest = after_lines end found (choice AddRefuses last_tests (Ok end))
 
   -- past the checks before the lines
   module _ (n : NoneFails (lent_checks p)) (e : room_for size end last p ≡ rest) where
-    by_line : lines_hold no_line (lines_of p) p.lines ≡ false → RoomIs
-    by_line g =
-        let b = not_hold_first p.lines (lines_of p) g in
-        refused_by 7 (first-after (lent_checks p) more 7 n (inl ((λ h. true_false ((lines_hold_iff _ _).1 h) g), refl))) (bad_line end found)
+    in_lines : (bad : BadLine) → found ≡ Err bad → RoomIs
+    in_lines bad g =
+        let b = found_first p.lines (lines_of p) bad g in
+        refused_by 7 (first-after (lent_checks p) more 7 n (inl ((λ h. hold_no_first p.lines (lines_of p) h _ _ b), refl))) (bad_line end bad)
         (e ∙ rw g refl) (record { number_is = refl; place_is = refl }) (in_line refl (n, b))
 
-    past_lines : lines_hold no_line (lines_of p) p.lines ≡ true → RoomIs
+    past_lines : found ≡ Ok tt → RoomIs
     past_lines g =
-        let h = (lines_hold_iff (lines_of p) p.lines).0 g in
-        let e' : room_for size end last p ≡ choice AddRefuses last_tests (At end) = e ∙ rw g refl in
+        let h = (lines_hold_iff (lines_of p) p.lines).0 (all_held no_line (lines_of p) p.lines g) in
+        let e' : room_for size end last p ≡ choice AddRefuses last_tests (Ok end) = e ∙ rw g refl in
         ⊎_elim
         (λ a.
         refused_by a.0 (first-after (lent_checks p) more a.0 n (inr (h, a.1))) a.2.0 (e' ∙ a.2.1) a.2.2
         (in_none a.2.3 (λ f i x. hold_no_first p.lines (lines_of p) h f i x.1)))
         (λ a. taken_at (all_after (lent_checks p) more n (h, a.0)) (e' ∙ a.1))
-        (chosen AddRefuses last_tests (At end))
+        (chosen AddRefuses last_tests (Ok end))
+
+    by_lines : (c : Result Unit BadLine) → found ≡ c → RoomIs
+    by_lines (Ok u) g = past_lines g
+    by_lines (Err bad) g = in_lines bad g
 
   pub room_is : RoomIs
   unfolding room_for
@@ -106,7 +110,7 @@ module _ (size end last : ℕ) (p : Plot) (inside : end ≤ size) where
       (λ a.
       refused_by a.0 (first-before (lent_checks p) more a.0 a.1) a.2.0 a.2.1 a.2.2
       (in_none a.2.3 (λ f i x. not-both (lent_checks p) a.0 a.1 x.0)))
-      (λ a. ⊎_elim (past_lines a.0 a.1) (by_line a.0 a.1) (true_or_false (lines_hold no_line (lines_of p) p.lines)))
+      (λ a. by_lines a.0 a.1 found refl)
       (chosen AddRefuses lent_tests rest)
 
 -- a record in its place changes no other byte
@@ -143,9 +147,9 @@ module _ (p : Plot) (s : List ℕ) (plots : List Plot) (c : Contains s plots) wh
   checks = add_checks (length s) end (last_number 0 plots) p
 
   pub data AddedIs : Type 0 where
-    refused : (k : ℕ) → FirstFails checks k → (r : Refusal) → added p s ≡ Refused r → Refuses end r k
+    refused : (k : ℕ) → FirstFails checks k → (r : Refusal) → added p s ≡ Err r → Refuses end r k
         → LineOf (BadLentHere p) r → AddedIs
-    accepted : NoneFails checks → added p s ≡ At end → AddedIs
+    accepted : NoneFails checks → added p s ≡ Ok end → AddedIs
 
   pub added_is : AddedIs
   added_is = by_room (room_is (length s) end (last_number 0 plots) p (contains-fits s plots c))
@@ -177,7 +181,7 @@ module _ (p : Plot) (s : List ℕ) (plots : List Plot) (c : Contains s plots) wh
   -- the payload with one plot more
   one_more : added_number (added p s) ≡ 0 → Contains (payload_with p s) (plots ++ p ∷ [])
   one_more z =
-      let e : added p s ≡ At (added_start (added p s)) = added-at (added p s) z in
+      let e : added p s ≡ Ok (added_start (added p s)) = added-at (added p s) z in
       let is = contains_form s plots c in
       let m = more-plots (length s) plots p (added_start (added p s)) c.rising (contains-fits s plots c) c.short (ap (added p) (sym is) ∙ e) in
       subst (λ (t : List ℕ). Contains t (plots ++ p ∷ [])) (sym (ap (payload_with p) is ∙ write_one-more (length s) plots p m.0 m.1 c.short))
@@ -211,7 +215,7 @@ adding_exactly p s = record {
       (ap added_number e ∙ sym (ap payload_number k), ap added_place e ∙ sym (ap payload_place k));
   plot = λ plots c. adding_to p s plots c;
   unchanged = λ h.
-      let r = added-refused (added p s) h in
+      let r = refused_as (added p s) h in
       sym (left_as_was s p r.0 r.1);
-  unset = added_unset (added p s);
+  unset = (place_unset (added p s), value_unset _ (added p s));
 }

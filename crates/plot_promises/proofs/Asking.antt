@@ -5,6 +5,7 @@ use mathlib.Core.Logic.{◌⊎◌, ◌≢◌, inl, inr, ⊎_elim}
 use mathlib.Core.List.{List, [], ◌∷◌, ◌++◌}
 use Prim.Native.Nat.{ℕ, ◌+◌}
 use native.Mathlib.Omega.{arith}
+use Rattle.std.specs.Prelude.{Err}
 use lib.ListN.{length}
 use borrow.Author.Tests.{eqb-true, eqb-false}
 use lib.Dec.{eqb}
@@ -12,14 +13,13 @@ use Rattle.lists.specs.Bytes.{Bytes}
 use Rattle.lists.proofs.Test.{true_or_false}
 use Rattle.plot.specs.declared.Refusal.{Refusal}
 use Rattle.plot.specs.declared.Refusal.TheVariants.{NoSuchPlot}
-use Rattle.plot.specs.declared.Located.TheVariants as located-as
 use Rattle.plot.specs.Layout.{Plot, record_of, bytes_of}
 use Rattle.plot.specs.Grammar.{Parsed, Plots, Stopped, reading}
 use Rattle.plot.specs.Answers.{checked, seek, located, asked}
 use Rattle.plot.specs.Numbers.{payload_number, payload_place, located_number, located_place, located_start, located_length}
 use Rattle.plot_promises.specs.Canonical.{Rising, Contains, FoundAt}
 use Rattle.plot_promises.specs.Refusals.{RecordAt, Absent, AskingExactly}
-use Rattle.plot_promises.proofs.Refusals.{number_some, located-refused, located_unset}
+use Rattle.plot_promises.proofs.Refusals.{number_some, refused_as, place_unset}
 use Rattle.plot.proofs.Entries.{located-plots, located_stopped, part-refused}
 use Rattle.plot_promises.proofs.Canonical.{contains-fits, contains_form, contains-reads, reading-contains, rising-at, found-payload}
 use Rattle.plot_promises.proofs.Checking.{checks_stopped, stopped_of, stopped_number}
@@ -43,7 +43,7 @@ none_first n x ps h k (b ∷ before) p after e =
     let z : ps ≡ before ++ p ∷ after = cc in
     k before p after z
 
-seeks : (n at : ℕ) (ps : List Plot) → Found n ps ⊎ (None n ps × (seek n at ps ≡ located-as.Refused NoSuchPlot))
+seeks : (n at : ℕ) (ps : List Plot) → Found n ps ⊎ (None n ps × (seek n at ps ≡ Err NoSuchPlot))
 unfolding seek
 seeks n at [] = inr ((λ before p after e. absurd (no_split before p after e)), refl)
   where
@@ -72,7 +72,7 @@ module _ (n : ℕ) (s : List ℕ) (ps : List Plot) (c : Contains s ps) where
     pub at : FoundAt n s (length (bytes_of plot.before)) (record_of plot.plot)
 
   -- on an accepted payload
-  pub asks : FoundIn ⊎ (None n ps × (located n s ≡ located-as.Refused NoSuchPlot))
+  pub asks : FoundIn ⊎ (None n ps × (located n s ≡ Err NoSuchPlot))
   asks =
       ⊎_elim
       (λ f. inl (record {
@@ -85,14 +85,14 @@ module _ (n : ℕ) (s : List ℕ) (ps : List Plot) (c : Contains s ps) where
 
 module _ (n : ℕ) (s : List ℕ) where
   -- on a payload that is refused
-  stopped_located : (r : Refusal) → reading s ≡ Stopped r → located n s ≡ located-as.Refused r
+  stopped_located : (r : Refusal) → reading s ≡ Stopped r → located n s ≡ Err r
   stopped_located r q = sym (located_stopped n s r q)
 
   -- an answer of asking, by the reading
   pub data AskedIs : Type 0 where
     found : (ps : List Plot) (c : Contains s ps) → FoundIn n s ps c → AskedIs
-    none : (ps : List Plot) → Contains s ps → None n ps → located n s ≡ located-as.Refused NoSuchPlot → AskedIs
-    refused : (r : Refusal) → reading s ≡ Stopped r → located n s ≡ located-as.Refused r → AskedIs
+    none : (ps : List Plot) → Contains s ps → None n ps → located n s ≡ Err NoSuchPlot → AskedIs
+    refused : (r : Refusal) → reading s ≡ Stopped r → located n s ≡ Err r → AskedIs
 
   pub asked_is : Bytes s → AskedIs
   asked_is b = by_reading (reading s) refl
@@ -127,7 +127,7 @@ module _ (n : ℕ) (s : List ℕ) where
   none-absent (none ps c k l) z = record { plots = ps; contains = c; none = k }
   none-absent (refused r q l) z = absurd (stopped_number s r q (sym (ap located_number l) ∙ z))
 
-  absent_none : Absent n s → located n s ≡ located-as.Refused NoSuchPlot
+  absent_none : Absent n s → located n s ≡ Err NoSuchPlot
   absent_none a =
       ⊎_elim
       (λ f. absurd (a.none f.plot.before f.plot.plot f.plot.after f.plot.is f.plot.number))
@@ -159,7 +159,7 @@ module _ (n : ℕ) (s : List ℕ) where
 
   empty_part : located_number (located n s) ≢ 0 → (asked n s ≡ []) × (located_start (located n s) ≡ 0) × (located_length (located n s) ≡ 0)
   empty_part h =
-      let r = located-refused (located n s) h in
+      let r = refused_as (located n s) h in
       (sym (part-refused (located n s) s r.0 r.1), ap located_start r.1, ap located_length r.1)
 
 pub asking_exactly : (n : ℕ) (s : List ℕ) → Bytes s → AskingExactly n s
@@ -171,5 +171,5 @@ asking_exactly n s b =
       zero = zero-absent n s is;
       refused = λ number place z y. ((λ h. own_refusal n s number place z y is h.0 h.1), λ h. refusal_own n s number place z h.0 h.1);
       empty = empty_part n s;
-      unset = located_unset (located n s);
+      unset = place_unset (located n s);
     }

@@ -5,24 +5,21 @@ use native.Mathlib.Omega.{arith}
 use native.Mathlib.Nat.{div-add-mod', mul-mod_left, sub-zero, add-zero, zero-add}
 use mathlib.Core.Path.{◌≡◌, refl, sym, ap, subst, ◌∙◌}
 use mathlib.Core.List.{List, [], ◌∷◌, ◌++◌, append_assoc, append-nil}
+use Rattle.std.specs.Prelude.{Ok, Err}
 use lib.ListN.{length, take, drop, replicate, length-append, length-replicate}
 use lib.Seq.{take_at, drop-append-add, append_snoc}
 use lib.Dec.{eqb}
 use borrow.Author.Tests.{eq-eqb, ne_eqb}
-use Rattle.plot.specs.declared.Located.{Located}
-use Rattle.plot.specs.declared.Located.TheVariants as located-as
-use Rattle.plot.specs.declared.Added.{Added}
-use Rattle.plot.specs.declared.Added.TheVariants as added-as
 use Rattle.lists.specs.Choice.{pick}
 use Rattle.lists.specs.Bytes.{Bytes}
 use Rattle.plot.specs.Layout.{Plot, lines_of, record_of, bytes_of}
 use Rattle.plot_promises.specs.Lines.{LinesHold}
 use Rattle.plot.specs.Grammar.{Plots, longest, reading}
-use Rattle.plot.specs.Answers.{last_number, seek, located, part_of, asked, added, payload_after, payload_with}
+use Rattle.plot.specs.Answers.{Located, Added, last_number, seek, located, part_of, asked, added, payload_after, payload_with}
 use Rattle.plot.specs.Numbers.{number_of, place_of, located_number, located_start, located_length, added_start}
 use Rattle.plot_promises.specs.Canonical.{RecordBytes, PlotHolds, Rising, Contains, PlotsUnique, AllAdded, NotAdded, add_then, add_all, WrittenAsRead, ReadAsWritten, AcceptedForm, FoundAt, AddedIsFound}
 use Rattle.plot.proofs.Lists.{low_byte, high_byte, part-front, part_middle}
-use Rattle.plot_promises.proofs.Lines.{lines_hold_iff}
+use Rattle.plot_promises.proofs.Lines.{held_check, lines_hold_iff}
 use Rattle.plot_promises.proofs.Sound.{payload_of, reading-sound}
 use Rattle.plot_promises.proofs.Complete.{payload-length, reading_complete}
 use Rattle.plot.proofs.Entries.{reading-reads, taken, added-plots, add-here, located-plots, Within, within-seek}
@@ -95,12 +92,12 @@ module _ (size : ℕ) (ps : List Plot) (p : Plot) (r : Rising 0 (ps ++ p ∷ [])
   reads_before : reading before ≡ Plots ps (length (bytes_of ps))
   reads_before = reading_complete size ps less l (rising-before 0 ps (p ∷ []) r)
 
-  pub add-one-more : added p before ≡ added-as.At (length (bytes_of ps))
+  pub add-one-more : added p before ≡ Ok (length (bytes_of ps))
   add-one-more =
       let h = rising-at 0 ps p [] r in
       let n : length before ≡ size = payload-length size ps less in
       let b : length (bytes_of ps) + length (record_of p) ≤ size = room in
-      sym (add-here (length before) (length (bytes_of ps)) (last_number 0 ps) p (short_of p h.0) (thirds_of p h.0) h.0.some ((lines_hold_iff _ _).1 h.0.hold) h.1 (omega arith)
+      sym (add-here (length before) (length (bytes_of ps)) (last_number 0 ps) p (short_of p h.0) (thirds_of p h.0) h.0.some (held_check _ _ _ ((lines_hold_iff _ _).1 h.0.hold)) h.1 (omega arith)
       ∙ added-plots before p ps (length (bytes_of ps)) (last_number 0 ps) reads_before refl)
 
   pub write_one-more : payload_with p before ≡ payload_of size (ps ++ p ∷ [])
@@ -168,7 +165,7 @@ reading-contains s ps end b q =
     subst (λ (t : List ℕ). Contains t ps) (sym (i.form b)) (contains_of (length s) ps (reading-reads s ps end q).0 i.rising i.fits)
 
 -- an added plot makes the plots one more
-pub more-plots : (size : ℕ) (ps : List Plot) (p : Plot) (start : ℕ) → Rising 0 ps → length (bytes_of ps) ≤ size → size ≤ longest → added p (payload_of size ps) ≡ added-as.At start
+pub more-plots : (size : ℕ) (ps : List Plot) (p : Plot) (start : ℕ) → Rising 0 ps → length (bytes_of ps) ≤ size → size ≤ longest → added p (payload_of size ps) ≡ Ok start
     → Rising 0 (ps ++ p ∷ []) × (length (bytes_of (ps ++ p ∷ [])) ≤ size) × (start ≡ length (bytes_of ps))
 more-plots size ps p start r f l e =
     let t = taken (payload_of size ps) p start e in
@@ -189,10 +186,10 @@ ReadsOn size qs =
 read_more : (size : ℕ) (p : Plot) (qs ps : List Plot) (s : List ℕ) → size ≤ longest → ReadsOn size qs → Rising 0 ps → length (bytes_of ps) ≤ size
     → (a : Added) → added p (payload_of size ps) ≡ a → add_then (add_all qs) a (payload_with p (payload_of size ps)) ≡ AllAdded s
     → Contains s (ps ++ p ∷ qs)
-read_more size p qs ps s l ih r f (added-as.At start) e h =
+read_more size p qs ps s l ih r f (Ok start) e h =
     let m = more-plots size ps p start r f l e in
     subst (Contains s) (append_snoc ps p qs) (ih (ps ++ p ∷ []) s m.0 m.1 (ap (add_all qs) (sym (write_one-more size ps p m.0 m.1 l)) ∙ h))
-read_more size p qs ps s l ih r f (added-as.Refused x) e h =
+read_more size p qs ps s l ih r f (Err x) e h =
     let not-all : NotAdded (number_of x) (place_of x) ≡ AllAdded s = rw (ne_eqb (number_of x) 0 (number_some x)) at h in
     absurd (let y : ◌≡◌ {A = ℕ} 0 1 = cc not-all in omega arith)
 
@@ -218,7 +215,7 @@ rising_under last (x ∷ ps) p qs r =
     omega arith
 
 seek_finds : (at last : ℕ) (ps : List Plot) (p : Plot) (qs : List Plot) → Rising last (ps ++ p ∷ qs)
-    → seek p.number at (ps ++ p ∷ qs) ≡ located-as.At (at + length (bytes_of ps)) (length (record_of p))
+    → seek p.number at (ps ++ p ∷ qs) ≡ Ok (record { start = at + length (bytes_of ps); length = length (record_of p) })
 unfolding seek
 seek_finds at last [] p qs r = rw (eq-eqb p.number p.number refl, add-zero)
 seek_finds at last (x ∷ ps) p qs r =
@@ -226,20 +223,20 @@ seek_finds at last (x ∷ ps) p qs r =
     let n : x.number ≡ p.number → ⊥ = λ e. omega arith in
     let m : at + length (record_of x) + length (bytes_of ps) ≡ at + length (record_of x ++ bytes_of ps) = omega (arith, length-append (record_of x) (bytes_of ps)) in
     rw (ne_eqb x.number p.number n)
-    (seek_finds (at + length (record_of x)) x.number ps p qs r.2 ∙ ap (λ (k : ℕ). located-as.At k (length (record_of p))) m)
+    (seek_finds (at + length (record_of x)) x.number ps p qs r.2 ∙ ap (λ (k : ℕ). Ok (record { start = k; length = length (record_of p) })) m)
 
 seek_others : (n at : ℕ) (ps : List Plot) (p : Plot) → (p.number ≡ n → ⊥) → seek n at (ps ++ p ∷ []) ≡ seek n at ps
 unfolding seek
 seek_others n at [] p h = rw (ne_eqb p.number n h)
-seek_others n at (x ∷ ps) p h = ap (λ (l : Located). pick (eqb x.number n) (located-as.At at (length (record_of x))) l) (seek_others n (at + length (record_of x)) ps p h)
+seek_others n at (x ∷ ps) p h = ap (λ (l : Located). pick (eqb x.number n) (Ok (record { start = at; length = length (record_of x) })) l) (seek_others n (at + length (record_of x)) ps p h)
 
 -- in the payload of plots
 module _ (size : ℕ) (ps : List Plot) (p : Plot) (qs : List Plot) (r : Rising 0 (ps ++ p ∷ qs)) (f : length (bytes_of (ps ++ p ∷ qs)) ≤ size) (l : size ≤ longest) where
-  pub located-payload : located p.number (payload_of size (ps ++ p ∷ qs)) ≡ located-as.At (length (bytes_of ps)) (length (record_of p))
+  pub located-payload : located p.number (payload_of size (ps ++ p ∷ qs)) ≡ Ok (record { start = length (bytes_of ps); length = length (record_of p) })
   located-payload =
       located-plots p.number (payload_of size (ps ++ p ∷ qs)) (ps ++ p ∷ qs) _ (reading_complete size (ps ++ p ∷ qs) f l r)
       ∙ seek_finds 0 0 ps p qs r
-      ∙ ap (λ (k : ℕ). located-as.At k (length (record_of p))) (zero-add (length (bytes_of ps)))
+      ∙ ap (λ (k : ℕ). Ok (record { start = k; length = length (record_of p) })) (zero-add (length (bytes_of ps)))
 
   pub asked-payload : asked p.number (payload_of size (ps ++ p ∷ qs)) ≡ record_of p
   unfolding part_of
@@ -257,8 +254,8 @@ module _ (size : ℕ) (ps : List Plot) (p : Plot) (qs : List Plot) (r : Rising 0
 -- a part within common first bytes is common
 same-part : (found : Located) (x y z : List ℕ) → Within (length x) found → part_of found (x ++ y) ≡ part_of found (x ++ z)
 unfolding part_of
-same-part (located-as.At start len) x y z w = part-front start len x y w ∙ sym (part-front start len x z w)
-same-part (located-as.Refused r) x y z w = refl
+same-part (Ok place) x y z w = part-front place.start place.length x y w ∙ sym (part-front place.start place.length x z w)
+same-part (Err r) x y z w = refl
 
 module _ (size : ℕ) (ps : List Plot) (p : Plot) (r : Rising 0 (ps ++ p ∷ [])) (f : length (bytes_of (ps ++ p ∷ [])) ≤ size) (l : size ≤ longest)
     (n : ℕ) (h : p.number ≡ n → ⊥) where
@@ -283,7 +280,7 @@ module _ (size : ℕ) (ps : List Plot) (p : Plot) (r : Rising 0 (ps ++ p ∷ [])
 pub added_is_found : AddedIsFound
 added_is_found s p b z =
     let start = added_start (added p s) in
-    let e : added p s ≡ added-as.At start = added-at (added p s) z in
+    let e : added p s ≡ Ok start = added-at (added p s) z in
     let t = taken s p start e in
     let i = reading-sound s t.plots start t.reads in
     let l = (reading-reads s t.plots start t.reads).0 in

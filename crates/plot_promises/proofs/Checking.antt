@@ -3,16 +3,16 @@
 use mathlib.Core.Path.{◌≡◌, refl, sym, ap, subst, ◌∙◌}
 use mathlib.Core.Logic.{◌⊎◌, ◌≢◌, inl, inr, ⊎_elim}
 use mathlib.Core.List.{List, ◌++◌}
-use Prim.Native.Nat.{ℕ, ◌+◌, ◌<◌, ◌≤◌}
+use Prim.Native.Nat.{ℕ, ◌<◌, ◌≤◌}
 use native.Mathlib.Omega.{arith}
 use native.Mathlib.Nat.{le_refl, zero-add}
+use Rattle.std.specs.Prelude.{Ok, Err}
 use lib.ListN.{length, drop}
 use borrow.Author.Tests.{lt-ltb}
 use Rattle.lists.specs.Bytes.{Bytes}
 use Rattle.lists.proofs.Test.{lt-or_ge}
 use Rattle.plot.specs.declared.Refusal.{Refusal}
 use Rattle.plot.specs.declared.Refusal.TheVariants.{WrongLength}
-use Rattle.plot.specs.declared.Checked.TheVariants as checked-as
 use Rattle.plot.specs.Layout.{Plot, bytes_of}
 use Rattle.plot_promises.specs.Checks.{RecordFault, in_zeros, in_record, record_checks}
 use Rattle.plot.specs.Grammar.{Parsed, Plots, Stopped, read_from, reading, longest}
@@ -22,7 +22,7 @@ use Rattle.plot_promises.specs.Refusals.{AfterPlots, RefusedAs, CheckingExactly}
 use Rattle.plot_promises.specs.Figures.{BadLineHere, BadLineAt}
 use Rattle.plot.proofs.Cases.{reading-short}
 use Rattle.plot_promises.proofs.Checks.{first_of}
-use Rattle.plot_promises.proofs.Refusals.{number_some, checked_unset, Refuses, Tells, NoLine, LineOf, in_line, in_none}
+use Rattle.plot_promises.proofs.Refusals.{number_some, place_unset, value_unset, Refuses, Tells, NoLine, LineOf, in_line, in_none}
 use Rattle.plot_promises.proofs.Turn.{fault_reads, line_reads}
 use Rattle.plot_promises.proofs.Sound.{Stops, ReadIs, read_is, reading-sound}
 use Rattle.plot_promises.proofs.Complete.{stops_past}
@@ -30,11 +30,11 @@ use Rattle.plot_promises.proofs.Canonical.{contains-reads, reading-contains}
 
 -- what the check answers, by the reading
 module _ (s : List ℕ) where
-  pub checks-plots : (ps : List Plot) (end : ℕ) → reading s ≡ Plots ps end → checked s ≡ checked-as.Accepted (record { at = end; last = last_number 0 ps })
+  pub checks-plots : (ps : List Plot) (end : ℕ) → reading s ≡ Plots ps end → checked s ≡ Ok (record { at = end; last = last_number 0 ps })
   unfolding checked_of
   checks-plots ps end q = rw q
 
-  pub checks_stopped : (r : Refusal) → reading s ≡ Stopped r → checked s ≡ checked-as.Refused r
+  pub checks_stopped : (r : Refusal) → reading s ≡ Stopped r → checked s ≡ Err r
   unfolding checked_of
   checks_stopped r q = rw q
 
@@ -154,5 +154,5 @@ checking_exactly s b = record {
         (ap payload_number e ∙ r.2.number_is, ap payload_place e ∙ r.2.place_is)),
   );
   cursor = λ plots c. checks-plots s plots _ (contains-reads s plots c);
-  unset = checked_unset (checked s);
+  unset = (place_unset (checked s), value_unset _ (checked s));
 }

@@ -6,25 +6,27 @@ use native.Mathlib.Nat.{mod-add-div', add-zero, zero-add}
 use mathlib.Core.Path.{◌≡◌, refl, sym, ap, ◌∙◌}
 use mathlib.Core.Bool.{true}
 use mathlib.Core.List.{List, [], ◌∷◌, ◌++◌, append_assoc}
+use Rattle.std.specs.Prelude.{Some, None, Ok}
 use lib.ListN.{length, drop, replicate, length-append, length-replicate}
 use lib.Seq.{take_at, drop_at}
 use Rattle.plot.specs.declared.Cursor.{Cursor}
 use Rattle.plot.specs.declared.Refusal.{Refusal}
-use Rattle.plot.specs.declared.Step.TheVariants.{Record, End}
-use Rattle.plot.specs.Layout.{Plot, mark, header_length, plot_of, record_length, no_line, lines_hold, lines_of, record_of, bytes_of}
+use Rattle.plot.specs.declared.Record.{Record}
+use Rattle.plot.specs.Layout.{Plot, mark, header_length, plot_of, record_length, no_line, lines_check, lines_of, record_of, bytes_of}
 use Rattle.plot.specs.Grammar.{all_zero, agree, head_at, step_at, Parsed, Plots, Stopped, onto, read_from, longest, reading}
 use Rattle.plot.specs.Answers.{last_number}
 use Rattle.plot_promises.specs.Canonical.{PlotHolds, Rising}
 use Rattle.plot.proofs.Cases.{head_record, read-end, read_on, reading-short}
-use Rattle.plot_promises.proofs.Lines.{lines_hold_iff}
-use Rattle.plot_promises.proofs.Sound.{lines_prefix, payload_of}
+use Rattle.plot.proofs.Lines.{check_prefix}
+use Rattle.plot_promises.proofs.Lines.{held_check, lines_hold_iff}
+use Rattle.plot_promises.proofs.Sound.{payload_of}
 
 all-zeros : (n : ℕ) → all_zero (replicate n 0) ≡ true
 unfolding all_zero
 all-zeros zero = refl
 all-zeros (suc n) = all-zeros n
 
-step-zeros : (at n : ℕ) → step_at at (replicate n 0) ≡ End
+step-zeros : (at n : ℕ) → step_at at (replicate n 0) ≡ Ok None
 unfolding step_at all_zero
 step-zeros at zero = refl
 step-zeros at (suc n) = rw (all-zeros n)
@@ -33,6 +35,9 @@ step-zeros at (suc n) = rw (all-zeros n)
 module _ (at : ℕ) (p : Plot) (h : PlotHolds p) (rest : List ℕ) where
   abbrev after : Cursor
   after = record { at = at + record_length (lines_of p); last = p.number }
+
+  abbrev written : Record
+  written = record { lines = at + header_length; count = lines_of p; next = after }
 
   size : length (record_of p) ≡ record_length (lines_of p)
   size =
@@ -53,21 +58,21 @@ module _ (at : ℕ) (p : Plot) (h : PlotHolds p) (rest : List ℕ) where
   unfolding step_at
   first = refl
 
-  pub step-written : step_at at (record_of p ++ rest) ≡ Record (at + header_length) (lines_of p) after
+  pub step-written : step_at at (record_of p ++ rest) ≡ Ok (Some written)
   step-written =
       sym first
       ∙ sym (head_record at (record_of p ++ rest) marked (omega (arith, long)) h.few long (λ z. h.some (sym number ∙ z)))
-      ∙ ap (λ (n : ℕ). Record (at + header_length) (lines_of p) (record { at = at + record_length (lines_of p); last = n })) number
+      ∙ ap (λ (n : ℕ). Ok (Some (record { lines = at + header_length; count = lines_of p; next = record { at = at + record_length (lines_of p); last = n } }))) number
 
-  lines-written : lines_hold no_line (lines_of p) (p.lines ++ rest) ≡ true
+  lines-written : lines_check no_line 0 (lines_of p) (p.lines ++ rest) ≡ Ok tt
   lines-written =
       let t : lines_of p * 3 ≡ length p.lines = h.threes in
-      lines_prefix (lines_of p) no_line p.lines rest (omega arith) ∙ (lines_hold_iff (lines_of p) p.lines).1 h.hold
+      check_prefix (lines_of p) no_line 0 p.lines rest (omega arith) ∙ held_check no_line (lines_of p) p.lines ((lines_hold_iff (lines_of p) p.lines).1 h.hold)
 
   pub read-written : (f last : ℕ) → 0 < f → last < p.number
       → read_from f at last (record_of p ++ rest) ≡ onto p (read_from (f - 1) (at + length (record_of p)) p.number rest)
   read-written f last g r =
-      read_on at last (record_of p ++ rest) (at + header_length) (lines_of p) after step-written lines-written f g r
+      read_on at last (record_of p ++ rest) written step-written lines-written f g r
       ∙ ap (λ (l : List ℕ). onto (record { number = p.number; lines = l }) (read_from (f - 1) (at + record_length (lines_of p)) p.number (drop (record_length (lines_of p)) (record_of p ++ rest))))
       (take_at p.lines rest (lines_of p * 3) (sym h.threes))
       ∙ ap (λ (t : List ℕ). onto p (read_from (f - 1) (at + record_length (lines_of p)) p.number t)) (drop_at (record_of p) rest (record_length (lines_of p)) size)

@@ -4,28 +4,24 @@ use mathlib.Core.Path.{◌≡◌, refl, sym, ap, subst, ◌∙◌}
 use mathlib.Core.Logic.{◌⊎◌, ◌≢◌, inl, inr, ⊎_elim}
 use mathlib.Core.List.{List, [], ◌∷◌}
 use Prim.Native.Nat.{ℕ, ◌+◌}
-use native.Mathlib.Omega.{arith}
+use Rattle.std.specs.Prelude.{Some, None, Ok, Err}
 use lib.ListN.{length}
 use lib.Dec.{eqb}
 use Rattle.lists.specs.Bytes.{Bytes}
 use Rattle.lists.proofs.Test.{pick_of}
 use Rattle.plot.specs.declared.Refusal.{Refusal}
-use Rattle.plot.specs.declared.Step.TheVariants.{End, Refused}
-use Rattle.plot.specs.declared.Located.{Located}
-use Rattle.plot.specs.declared.Located.TheVariants.{At}
-use Rattle.plot.specs.declared.Added.{Added}
-use Rattle.plot.specs.declared.Added.TheVariants as added-as
 use Rattle.plot.specs.Layout.{Plot, lines_of, record_of}
 use Rattle.plot.specs.Grammar.{record_at, Parsed, Plots, Stopped, reading}
-use Rattle.plot.specs.Answers.{checked, seek, located, added}
+use Rattle.plot.specs.Answers.{Located, Added, checked, seek, located, added}
 use Rattle.plot.specs.Numbers.{number_of, place_of, figure_of, index_of, payload_number, payload_place, payload_figure, payload_index, located_number, located_place, located_figure, located_index, added_number, added_place, added_figure, added_index}
-use Rattle.plot.proofs.Records.{not-refused, late-end, late_record}
+use Rattle.plot.proofs.Records.{late-end, late_record}
 use Rattle.plot.proofs.Entries.{located-plots, located_stopped, added_stopped}
 use Rattle.plot_promises.specs.Canonical.{Contains}
 use Rattle.plot_promises.specs.Refusals.{end_of}
 use Rattle.plot_promises.specs.Figures.{BadLineHere, BadLineAt, BadLentHere, BadLineAdded, FigureExactly, Figures}
 use Rattle.plot_promises.proofs.Refusals.{Tells, LineOf, in_line, in_none}
 use Rattle.plot_promises.proofs.FirstBad.{bad_some, bad_index, bad_figure, hold_no_first}
+use Rattle.plot_promises.proofs.Place.{record_here}
 use Rattle.plot_promises.proofs.Turn.{RecordIs, nothing, fault, holds, record_is}
 use Rattle.plot_promises.proofs.Stepping.{stepping_no_line}
 use Rattle.plot_promises.proofs.Canonical.{reading-contains}
@@ -103,7 +99,7 @@ seek_no_line : (n at : ℕ) (ps : List Plot) → (located_figure (seek n at ps) 
 unfolding seek
 seek_no_line n at [] = (refl, refl)
 seek_no_line n at (p ∷ ps) =
-    pick_of (λ (a : Located). (located_figure a ≡ 0) × (located_index a ≡ 0)) (eqb p.number n) (At at (length (record_of p))) (seek n (at + length (record_of p)) ps) (refl, refl)
+    pick_of (λ (a : Located). (located_figure a ≡ 0) × (located_index a ≡ 0)) (eqb p.number n) (Ok (record { start = at; length = length (record_of p) })) (seek n (at + length (record_of p)) ps) (refl, refl)
     (seek_no_line n (at + length (record_of p)) ps)
 
 asking_figure : (n : ℕ) (s : List ℕ) → Bytes s
@@ -121,7 +117,7 @@ module _ (p : Plot) (s : List ℕ) (b : Bytes s) where
   abbrev Sound : Type 0
   Sound = TellsLine (BadLineAdded p s) (added_number a) (added_place a) (added_figure a) (added_index a) ⊎ ((added_figure a ≡ 0) × (added_index a ≡ 0))
 
-  same : (r : Refusal) → a ≡ added-as.Refused r → Same (added_number a) (added_place a) (added_figure a) (added_index a) r
+  same : (r : Refusal) → a ≡ Err r → Same (added_number a) (added_place a) (added_figure a) (added_index a) r
   same r e = (ap added_number e, ap added_place e, ap added_figure e, ap added_index e)
 
   -- to plots that the payload contains
@@ -172,15 +168,14 @@ module _ (at last : ℕ) (s : List ℕ) (r : Refusal) where
       (λ k f i b. (bad_some _ _ f i b.1.1, (n, p ∙ sym b.0, bad_figure _ _ _ _ _ _ x.1 b.1.1, bad_index _ _ _ _ _ _ x.1 b.1.1)))
   by_line p (in_none o never) = figure_exactly BadHere (number_of r) (place_of r) (figure_of r) (index_of r) (inr o) (λ k f i b. absurd (never f i b.1))
 
-  by_record : record_at at last s ≡ Refused r → RecordIs at last s → RecordFigure
-  by_record q (nothing z e) = absurd (let same : End ≡ Refused r = late-end at last s e ∙ q in let y : ◌≡◌ {A = ℕ} 0 1 = cc same in omega arith)
+  by_record : record_at at last s ≡ Err r → RecordIs at last s → RecordFigure
+  by_record q (nothing z e) = absurd (let same : Ok None ≡ Err r = late-end at last s e ∙ q in cc)
   by_record q (fault r' e p l y) =
-      let same : Refused r' ≡ Refused r = sym e ∙ q in
-      let is : r' ≡ r = cc same in
+      let is : r' ≡ r = cc in
       by_line (subst (λ (x : Refusal). place_of x ≡ at) is p) (subst (LineOf (BadLineHere s)) is l)
-  by_record q (holds z a e g o) = absurd (not-refused r _ _ _ (sym q ∙ sym (late_record at last s _ _ _ e g o)))
+  by_record q (holds z a e g o) = absurd (let same : Ok (Some (record_here at s)) ≡ Err r = late_record at last s (record_here at s) e g o ∙ q in cc)
 
-  moving_figure : record_at at last s ≡ Refused r → RecordFigure
+  moving_figure : record_at at last s ≡ Err r → RecordFigure
   moving_figure q = by_record q (record_is at last s)
 
 pub figures : Figures

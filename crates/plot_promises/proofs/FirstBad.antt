@@ -2,25 +2,23 @@
 -- such line at most.
 use mathlib.Core.Path.{◌≡◌, refl, sym, ap, ◌∙◌}
 use mathlib.Core.Logic.{◌≢◌, inl, inr, ⊎_elim}
-use mathlib.Core.Bool.{false}
 use mathlib.Core.List.{List, [], ◌∷◌}
 use Prim.Native.Nat.{ℕ, zero, suc, ◌+◌, ◌*◌, ◌<◌}
 use native.Mathlib.Omega.{arith}
 use native.Mathlib.Nat.{not-suc-le-zero}
+use Rattle.std.specs.Prelude.{Result, Ok, Err}
 use lib.ListN.{drop}
 use lib.Seq.{drop-drop}
-use borrow.Author.Tests.{eq-eqb, ne_eqb}
-use Rattle.lists.proofs.Test.{lt-or_ge, true_false}
+use Rattle.lists.proofs.Test.{lt-or_ge}
 use Rattle.plot.specs.declared.Line.{Line}
-use Rattle.plot.specs.declared.LineCheck.TheVariants.{Holds}
-use Rattle.plot.specs.declared.LinesCheck.{LinesCheck}
-use Rattle.plot.specs.Layout.{no_line, line_check, figure_number, lines_check, lines_hold}
-use Rattle.plot.proofs.Lines.{all_held}
+use Rattle.plot.specs.declared.LineFault.{LineFault}
+use Rattle.plot.specs.declared.BadLine.{BadLine}
+use Rattle.plot.specs.Layout.{no_line, line_check, line_then, fault_number, figure_number, lines_check}
 use Rattle.plot_promises.specs.Lines.{line_at, Above, LinesHold}
 use Rattle.plot_promises.specs.Checks.{◌unless◌, FirstFails, NoneFails}
 use Rattle.plot_promises.specs.Figures.{value_checks, checks_of_line, checks_at, FirstBadLine, FirstLineRises}
 use Rattle.plot_promises.proofs.Checks.{first_one, not-both, first-before}
-use Rattle.plot_promises.proofs.Lines.{line_check_is, figure_some}
+use Rattle.plot_promises.proofs.Lines.{fault_some, line_check_exactly, figure_some}
 
 -- the line before line i
 abbrev line_before : List ℕ → ℕ → Line
@@ -64,9 +62,9 @@ module _ (count : ℕ) (lines : List ℕ) (f i g j : ℕ) (a : FirstBadLine coun
   bad_figure = first_one (checks_at lines i) f g a.fails (rw bad_index b.fails)
 
 -- what the check of `count` lines found
-pub data Found (count : ℕ) (lines : List ℕ) (found : LinesCheck) : Type 0 where
-  none : found ≡ record { check = Holds; index = 0 } → ((i : ℕ) → i < count → NoneFails (checks_at lines i)) → Found count lines found
-  first : FirstBadLine count lines (figure_number found.check) found.index → Found count lines found
+pub data Found (count : ℕ) (lines : List ℕ) (found : Result Unit BadLine) : Type 0 where
+  none : found ≡ Ok tt → ((i : ℕ) → i < count → NoneFails (checks_at lines i)) → Found count lines found
+  first : (bad : BadLine) → found ≡ Err bad → FirstBadLine count lines (fault_number bad.fault) bad.index → Found count lines found
 
 module _ (lines : List ℕ) where
   abbrev Passed : ℕ → Type 0
@@ -85,37 +83,36 @@ module _ (lines : List ℕ) where
   unfolding lines_check
   found_turn zero i count e passed = none refl (λ j l. passed j (omega arith))
   found_turn (suc left) i count e passed =
-      ⊎_elim
-      (λ h.
-      let z : figure_number (line_check (line_before lines i) (line_at lines i)) ≢ 0 = λ q. figure_some (line_before lines i) (line_at lines i) h.0 h.1 (sym h.2 ∙ q) in
-      let b : FirstBadLine count lines (figure_number (line_check (line_before lines i) (line_at lines i))) i = record {
-        inside = omega arith;
-        before = passed;
-        fails = first-at lines i _ (rw h.2 h.1);
-      } in
-      rw (ne_eqb (figure_number (line_check (line_before lines i) (line_at lines i))) 0 z) (first b))
-      (λ h.
-      let z : figure_number (line_check (line_before lines i) (line_at lines i)) ≡ 0 = ap figure_number h.1 in
-      let y : i * 3 + 3 ≡ suc i * 3 = omega arith in
-      let d : drop 3 (drop (i * 3) lines) ≡ drop (suc i * 3) lines = drop-drop 3 (i * 3) lines ∙ ap (λ (n : ℕ). drop n lines) y in
       let l : suc i + left ≡ count = omega arith in
-      rw (eq-eqb (figure_number (line_check (line_before lines i) (line_at lines i))) 0 z, d) (found_turn left (suc i) count l (one_more i passed h.0)))
-      (line_check_is (line_before lines i) (line_at lines i))
+      by_line (line_check (line_before lines i) (line_at lines i)) refl (found_turn left (suc i) count l)
+    where
+      by_line : (c : Result Unit LineFault) → line_check (line_before lines i) (line_at lines i) ≡ c
+          → (Passed (suc i) → Found count lines (lines_check (line_at lines i) (suc i) left (drop (suc i * 3) lines)))
+          → Found count lines (line_then i (line_check (line_before lines i) (line_at lines i)) (lines_check (line_at lines i) (suc i) left (drop 3 (drop (i * 3) lines))))
+      by_line (Ok u) q rest =
+          let n = (line_check_exactly (line_before lines i) (line_at lines i)).holds.0 (ap figure_number q) in
+          let y : i * 3 + 3 ≡ suc i * 3 = omega arith in
+          let d : drop 3 (drop (i * 3) lines) ≡ drop (suc i * 3) lines = drop-drop 3 (i * 3) lines ∙ ap (λ (n : ℕ). drop n lines) y in
+          rw (q, d) (rest (one_more i passed n))
+      by_line (Err f) q rest =
+          let x = ((line_check_exactly (line_before lines i) (line_at lines i)).fails (fault_number f) (fault_some f)).0 (ap figure_number q) in
+          let b : FirstBadLine count lines (fault_number f) i = record { inside = omega arith; before = passed; fails = first-at lines i _ x } in
+          rw q (first (record { fault = f; index = i }) refl b)
 
   lines-found : (count : ℕ) → Found count lines (lines_check no_line 0 count lines)
   lines-found count = found_turn count 0 count (omega arith) (λ j l. absurd (not-suc-le-zero l))
 
   module _ (count : ℕ) where
-    -- lines that do not all hold have a first that fails
-    abbrev found : LinesCheck
-    found = lines_check no_line 0 count lines
-
-    pub not_hold_first : lines_hold no_line count lines ≡ false → FirstBadLine count lines (figure_number found.check) found.index
-    not_hold_first g = by_found (lines-found count)
+    -- the line that is found is the first that fails
+    pub found_first : (bad : BadLine) → lines_check no_line 0 count lines ≡ Err bad → FirstBadLine count lines (fault_number bad.fault) bad.index
+    found_first bad e = by_found (lines-found count)
       where
-        by_found : Found count lines found → FirstBadLine count lines (figure_number found.check) found.index
-        by_found (none e n) = absurd (true_false (all_held no_line count lines _ e refl) g)
-        by_found (first b) = b
+        by_found : Found count lines (lines_check no_line 0 count lines) → FirstBadLine count lines (fault_number bad.fault) bad.index
+        by_found (none q n) = absurd (let same : Ok tt ≡ Err bad = sym q ∙ e in cc)
+        by_found (first found q b) =
+            let same : Err found ≡ Err bad = sym q ∙ e in
+            let is : found ≡ bad = cc in
+            rw (← is) b
 
     -- lines that hold have none
     pub hold_no_first : LinesHold count lines → (f i : ℕ) → FirstBadLine count lines f i → ⊥

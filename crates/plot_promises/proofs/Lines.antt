@@ -7,6 +7,7 @@ use mathlib.Core.List.{List, [], ◌∷◌}
 use Prim.Native.Nat.{ℕ, zero, suc, zero-le, suc-le-suc, ◌+◌, ◌*◌, ◌<◌, ◌≤◌}
 use native.Mathlib.Omega.{arith}
 use native.Mathlib.Nat.{not-suc-le-zero, le_of_suc-le-suc}
+use Rattle.std.specs.Prelude.{Result, Ok, Err, is_ok}
 use lib.ListN.{drop}
 use lib.Seq.{drop-drop}
 use lib.Dec.{ltb, leb, eqb}
@@ -14,9 +15,10 @@ use borrow.Author.Tests.{le-ltb, lt-ltb, le-leb, eq-eqb, ltb-true, ltb-false, le
 use Rattle.lists.specs.Choice.{pick}
 use Rattle.lists.proofs.Test.{true_false}
 use Rattle.plot.specs.declared.Line.{Line}
-use Rattle.plot.specs.declared.LineCheck.{LineCheck}
-use Rattle.plot.specs.declared.LineCheck.TheVariants.{Holds, Species, Class, Count, Order}
-use Rattle.plot.specs.Layout.{line_of, no_line, within, rises, line_check, figure_number, line_holds, lines_hold}
+use Rattle.plot.specs.declared.BadLine.{BadLine}
+use Rattle.plot.specs.declared.LineFault.{LineFault}
+use Rattle.plot.specs.declared.LineFault.TheVariants.{Species, Class, Count, Order}
+use Rattle.plot.specs.Layout.{line_of, no_line, within, rises, line_check, fault_number, figure_number, line_holds, lines_check, lines_hold}
 use Rattle.plot.proofs.Lines.{hold_none, hold_first}
 use Rattle.plot_promises.specs.Lines.{line_at, SpeciesInRange, ClassInRange, CountInRange, InRanges, Above, LinesHold, LinesHoldIff}
 use Rattle.plot_promises.specs.Checks.{FirstFails, NoneFails}
@@ -54,22 +56,33 @@ rises_iff before line = (
         let a = pick_true _ _ h in
         inr (eqb-true _ _ a.0, ltb-true _ _ a.1)
 
+-- a line holds where its figure is 0
+pub fault_some : (f : LineFault) → fault_number f ≢ 0
+fault_some Species e = omega arith
+fault_some Class e = omega arith
+fault_some Count e = omega arith
+fault_some Order e = omega arith
+
+holds_iff : (c : Result Unit LineFault) → (is_ok c ≡ true) ↔ (figure_number c ≡ 0)
+holds_iff (Ok u) = (λ e. refl, λ e. refl)
+holds_iff (Err f) = (λ e. absurd (true_false refl (sym e)), λ e. absurd (fault_some f e))
+
 -- one line: the choice by tests is the first check that fails
 module _ (before line : Line) where
-  abbrev Figure : LineCheck → ℕ → Type 0
+  abbrev Figure : Result Unit LineFault → ℕ → Type 0
   Figure check figure = figure_number check ≡ figure
 
   abbrev line_tests : List (Tested Figure)
   line_tests =
-      unless_true Figure 1 Species refl (within 1 99 line.species) (SpeciesInRange line) (within_iff 1 99 line.species)
-      ∷ unless_true Figure 2 Class refl (within 1 200 line.class) (ClassInRange line) (within_iff 1 200 line.class)
-      ∷ unless_true Figure 3 Count refl (within 1 255 line.count) (CountInRange line) (within_iff 1 255 line.count)
-      ∷ unless_true Figure 4 Order refl (rises before line) (Above before line) (rises_iff before line)
+      unless_true Figure 1 (Err Species) refl (within 1 99 line.species) (SpeciesInRange line) (within_iff 1 99 line.species)
+      ∷ unless_true Figure 2 (Err Class) refl (within 1 200 line.class) (ClassInRange line) (within_iff 1 200 line.class)
+      ∷ unless_true Figure 3 (Err Count) refl (within 1 255 line.count) (CountInRange line) (within_iff 1 255 line.count)
+      ∷ unless_true Figure 4 (Err Order) refl (rises before line) (Above before line) (rises_iff before line)
       ∷ []
 
-  pub line_check_is : ((k : ℕ) × FirstFails (checks_of_line before line) k × Figure (line_check before line) k) ⊎ (NoneFails (checks_of_line before line) × (line_check before line ≡ Holds))
+  pub line_check_is : ((k : ℕ) × FirstFails (checks_of_line before line) k × Figure (line_check before line) k) ⊎ (NoneFails (checks_of_line before line) × (line_check before line ≡ Ok tt))
   unfolding line_check
-  line_check_is = chosen Figure line_tests Holds
+  line_check_is = chosen Figure line_tests (Ok tt)
 
   -- the number of a check that fails is not 0
   pub figure_some : (k : ℕ) → FirstFails (checks_of_line before line) k → k ≢ 0
@@ -91,9 +104,9 @@ module _ (before line : Line) where
   pub line_iff : (line_holds before line ≡ true) ↔ (InRanges line × Above before line)
   line_iff = (
     (λ e.
-        let n = line_check_exactly.holds.0 (eqb-true _ _ e) in
+        let n = line_check_exactly.holds.0 ((holds_iff (line_check before line)).0 e) in
         (record { species = n.0; class = n.1.0; count = n.1.1.0 }, n.1.1.1.0)),
-    (λ h. eq-eqb _ _ (line_check_exactly.holds.1 (h.0.species, (h.0.class, (h.0.count, (h.1, tt)))))),
+    (λ h. (holds_iff (line_check before line)).1 (line_check_exactly.holds.1 (h.0.species, (h.0.class, (h.0.count, (h.1, tt)))))),
   )
 
 -- the lines after the first
@@ -148,6 +161,15 @@ hold_after (suc count) before s = (
       let a : line_holds before (line_of s) ≡ true = (line_iff before (line_of s)).1 (h.0.ranges 0 (suc-le-suc zero-le), h.1 (suc-le-suc zero-le)) in
       hold_first before count s ∙ ap (λ (t : Bool). pick t (lines_hold (line_of s) count (drop 3 s)) false) a ∙ (hold_after count (line_of s) (drop 3 s)).1 (less before count s h.0)),
 )
+
+-- lines that all hold are not refused
+pub held_check : (before : Line) (count : ℕ) (s : List ℕ) → lines_hold before count s ≡ true → lines_check before 0 count s ≡ Ok tt
+unfolding lines_hold
+held_check before count s e = by_check (lines_check before 0 count s) e
+  where
+    by_check : (c : Result Unit BadLine) → is_ok c ≡ true → c ≡ Ok tt
+    by_check (Ok u) q = refl
+    by_check (Err bad) q = absurd (true_false q refl)
 
 -- every line in its ranges is above the one that stands before the first
 pub lines_hold_iff : LinesHoldIff

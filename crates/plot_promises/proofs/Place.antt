@@ -6,17 +6,17 @@ use mathlib.Core.Bool.{true, false}
 use mathlib.Core.List.{List, [], ◌∷◌}
 use Prim.Native.Nat.{ℕ, zero, suc, zero-le, suc-le-suc, ◌+◌, ◌<◌}
 use native.Mathlib.Nat.{not-suc-le-zero, le_of_suc-le-suc}
+use Rattle.std.specs.Prelude.{Some, None, Ok, Err}
 use lib.ListN.{length, get_or}
 use lib.Dec.{eqb}
 use borrow.Author.Tests.{eq-eqb, ne_eqb, eqb-true, eqb-false}
 use Rattle.lists.proofs.Test.{true_or_false, true_false}
 use Rattle.plot.specs.declared.Refusal.{Refusal}
 use Rattle.plot.specs.declared.Refusal.TheVariants.{BadMark, CutShort}
-use Rattle.plot.specs.declared.Step.{Step}
-use Rattle.plot.specs.declared.Step.TheVariants.{Record, End, Refused}
+use Rattle.plot.specs.declared.Record.{Record}
 use Rattle.plot.specs.Layout.{mark, header_length, plot_of, count_of, record_length}
 use Rattle.plot_promises.specs.Checks.{NoneFails, Marked, header_checks, Zeros, FaultAt, in_zeros, in_record}
-use Rattle.plot.specs.Grammar.{all_zero, agree, outside_line, head_at, step_at}
+use Rattle.plot.specs.Grammar.{Step, all_zero, agree, outside_line, head_at, step_at}
 use Rattle.plot.specs.Numbers.{number_of, place_of}
 use Rattle.plot_promises.proofs.Checks.{Tested, unless_true, unless_less, unless_zero, chosen}
 use Rattle.plot_promises.proofs.Refusals.{NoLine, AnswerRefuses, refuse}
@@ -52,31 +52,31 @@ zeros_iff (x ∷ s) = (
 module _ (at : ℕ) (s : List ℕ) where
   -- a step that is refused here
   abbrev pub StepRefuses : Step → ℕ → Type 0
-  StepRefuses = AnswerRefuses Refused at
+  StepRefuses = AnswerRefuses at
 
   abbrev head_tests : List (Tested StepRefuses)
   head_tests =
-      unless_true StepRefuses 5 (Refused (BadMark at)) (refuse Refused at (BadMark at) refl (refl, refl)) (agree mark s) (Marked s) (agree_iff mark s)
-      ∷ unless_less StepRefuses 6 (Refused (CutShort at)) (refuse Refused at (CutShort at) refl (refl, refl)) (length s) header_length
-      ∷ unless_less StepRefuses 7 (Refused (outside_line at)) (refuse Refused at (outside_line at) refl (refl, refl)) 40 (count_of s)
-      ∷ unless_less StepRefuses 6 (Refused (CutShort at)) (refuse Refused at (CutShort at) refl (refl, refl)) (length s) (record_length (count_of s))
-      ∷ unless_zero StepRefuses 7 (Refused (outside_line at)) (refuse Refused at (outside_line at) refl (refl, refl)) (plot_of s)
+      unless_true StepRefuses 5 (Err (BadMark at)) (refuse at (BadMark at) refl (refl, refl)) (agree mark s) (Marked s) (agree_iff mark s)
+      ∷ unless_less StepRefuses 6 (Err (CutShort at)) (refuse at (CutShort at) refl (refl, refl)) (length s) header_length
+      ∷ unless_less StepRefuses 7 (Err (outside_line at)) (refuse at (outside_line at) refl (refl, refl)) 40 (count_of s)
+      ∷ unless_less StepRefuses 6 (Err (CutShort at)) (refuse at (CutShort at) refl (refl, refl)) (length s) (record_length (count_of s))
+      ∷ unless_zero StepRefuses 7 (Err (outside_line at)) (refuse at (outside_line at) refl (refl, refl)) (plot_of s)
       ∷ []
 
-  abbrev pub record_here : Step
-  record_here = Record (at + header_length) (count_of s) (record { at = at + record_length (count_of s); last = plot_of s })
+  abbrev pub record_here : Record
+  record_here = record { lines = at + header_length; count = count_of s; next = record { at = at + record_length (count_of s); last = plot_of s } }
 
   -- what stands here
   pub data StepIs : Type 0 where
-    ends : Zeros s → step_at at s ≡ End → StepIs
-    stops : (r : Refusal) → step_at at s ≡ Refused r → place_of r ≡ at → NoLine r → FaultAt (header_checks s) s (number_of r) → StepIs
-    goes_on : get_or s 0 0 ≢ 0 → NoneFails (header_checks s) → step_at at s ≡ record_here → StepIs
+    ends : Zeros s → step_at at s ≡ Ok None → StepIs
+    stops : (r : Refusal) → step_at at s ≡ Err r → place_of r ≡ at → NoLine r → FaultAt (header_checks s) s (number_of r) → StepIs
+    goes_on : get_or s 0 0 ≢ 0 → NoneFails (header_checks s) → step_at at s ≡ Ok (Some record_here) → StepIs
 
-  zero-tail : get_or s 0 0 ≡ 0 → all_zero s ≡ false → step_at at s ≡ Refused (BadMark at)
+  zero-tail : get_or s 0 0 ≡ 0 → all_zero s ≡ false → step_at at s ≡ Err (BadMark at)
   unfolding step_at
   zero-tail z e = rw (eq-eqb _ _ z, e)
 
-  zero-end : get_or s 0 0 ≡ 0 → all_zero s ≡ true → step_at at s ≡ End
+  zero-end : get_or s 0 0 ≡ 0 → all_zero s ≡ true → step_at at s ≡ Ok None
   unfolding step_at
   zero-end z e = rw (eq-eqb _ _ z, e)
 
@@ -96,7 +96,7 @@ module _ (at : ℕ) (s : List ℕ) where
       stops r (rw (ne_eqb _ _ z) a.2.1) a.2.2.place_is a.2.3
       (in_record z (rw a.2.2.number_is a.1)))
       (λ b. goes_on z b.0 (rw (ne_eqb _ _ z) b.1))
-      (chosen StepRefuses head_tests record_here)
+      (chosen StepRefuses head_tests (Ok (Some record_here)))
 
   pub step_is : StepIs
   step_is = ⊎_elim (λ e. zero-first (eqb-true _ _ e)) (λ e. record_first (eqb-false _ _ e)) (true_or_false (eqb (get_or s 0 0) 0))

@@ -62,7 +62,7 @@ pub number-most : (r : Refusal) → number_of r ≤ 10
 number-most WrongLength = omega arith
 number-most (BadMark place) = omega arith
 number-most (CutShort place) = omega arith
-number-most (BadTally place check index) = omega arith
+number-most (BadTally place line) = omega arith
 number-most (PlotOrder place) = omega arith
 number-most NoSuchPlot = omega arith
 number-most (Full place) = omega arith

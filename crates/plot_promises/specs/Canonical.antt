@@ -6,8 +6,7 @@ use Rattle.lists.specs.Choice.{pick}
 use Rattle.plot.specs.Layout.{Plot, line_of, lines_of, record_of, bytes_of}
 use Rattle.plot_promises.specs.Lines.{LinesHold}
 use Rattle.plot.specs.Grammar.{Plots, reading}
-use Rattle.plot.specs.declared.Added.{Added}
-use Rattle.plot.specs.Answers.{located, asked, added, payload_with}
+use Rattle.plot.specs.Answers.{Added, located, asked, added, payload_with}
 use Rattle.plot.specs.Numbers.{located_number, located_start, located_length, added_number, added_place, added_start}
 
 -- the bytes of a record in turn: "the two-byte mark 50 4C (hexadecimal)", "the plot number (two bytes, low first ..)", "the number of lines (one byte ..)", and the

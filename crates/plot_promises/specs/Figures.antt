@@ -1,11 +1,10 @@
 -- Which value in the line (document 02, Note 2; N2a, N2b): what the check of one line says, and which figure and line's index stand beside number 7, said of the lines
 -- themselves: the first line that fails, and in it the first check. proofs/Lines.antt and FirstBad.antt prove what is said of lines, proofs/Figures.antt what is said of
 -- each entry.
-use Rattle.std.specs.Prelude.{◌≡◌, ◌↔◌, ◌⊎◌, ◌≢◌, List, [], ◌∷◌, ◌++◌, ℕ, zero, suc, ◌<◌, drop}
+use Rattle.std.specs.Prelude.{◌≡◌, ◌↔◌, ◌⊎◌, ◌≢◌, Err, List, [], ◌∷◌, ◌++◌, ℕ, zero, suc, ◌<◌, drop}
 use Rattle.lists.specs.Bytes.{Bytes}
 use Rattle.plot.specs.declared.Line.{Line}
 use Rattle.plot.specs.declared.Refusal.{Refusal}
-use Rattle.plot.specs.declared.Step.TheVariants.{Refused}
 use Rattle.plot.specs.Layout.{Plot, header_length, count_of, line_check, figure_number, lines_of}
 use Rattle.plot.specs.Grammar.{step_at, record_at}
 use Rattle.plot.specs.Answers.{checked, located, added}
@@ -74,8 +73,8 @@ pub record FigureExactly (Bad : ℕ → ℕ → ℕ → Type 0) (number place fi
 
 -- N2b, of each entry: what stands at a place, before its lines are checked and with every check made; the check of a payload; the companion of asking; adding
 pub record Figures : Type 0 where
-  pub stepping : (at : ℕ) (s : List ℕ) (r : Refusal) → step_at at s ≡ Refused r → (figure_of r ≡ 0) × (index_of r ≡ 0)
-  pub moving : (at last : ℕ) (s : List ℕ) (r : Refusal) → record_at at last s ≡ Refused r → FigureExactly (λ (place figure index : ℕ). (place ≡ at) × BadLineHere s figure index) (number_of r) (place_of r) (figure_of r) (index_of r)
+  pub stepping : (at : ℕ) (s : List ℕ) (r : Refusal) → step_at at s ≡ Err r → (figure_of r ≡ 0) × (index_of r ≡ 0)
+  pub moving : (at last : ℕ) (s : List ℕ) (r : Refusal) → record_at at last s ≡ Err r → FigureExactly (λ (place figure index : ℕ). (place ≡ at) × BadLineHere s figure index) (number_of r) (place_of r) (figure_of r) (index_of r)
   pub checking : (s : List ℕ) → Bytes s
       → FigureExactly (BadLineAt s) (payload_number (checked s)) (payload_place (checked s)) (payload_figure (checked s)) (payload_index (checked s))
   pub asking : (n : ℕ) (s : List ℕ) → Bytes s

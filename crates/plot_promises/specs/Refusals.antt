@@ -1,14 +1,11 @@
 -- What the entries on a payload answer, exactly when (R1 to R5, E3, E4), over plots, bytes and document 01's numbers: what stands at a place, the check of a
 -- payload, asking for a plot, and adding one. These fix number, place and every value of an answer, and Figures.antt the figure and the line. proofs/Stepping.antt, Checking.antt, Asking.antt and
 -- Adding.antt prove them.
-use Rattle.std.specs.Prelude.{◌≡◌, ◌↔◌, ◌⊎◌, ◌≢◌, List, [], ◌∷◌, ◌++◌, ℕ, ◌+◌, ◌<◌, ◌≤◌, length, get_or}
+use Rattle.std.specs.Prelude.{◌≡◌, ◌↔◌, ◌⊎◌, ◌≢◌, Some, None, Ok, Err, List, [], ◌∷◌, ◌++◌, ℕ, ◌+◌, ◌<◌, ◌≤◌, length, get_or}
 use Rattle.plot.specs.declared.Cursor.{Cursor}
 use Rattle.plot.specs.declared.Refusal.{Refusal}
-use Rattle.plot.specs.declared.Step.{Step}
-use Rattle.plot.specs.declared.Step.TheVariants.{Record, End, Refused}
-use Rattle.plot.specs.declared.Checked.TheVariants.{Accepted}
 use Rattle.plot.specs.Layout.{Plot, plot_of, count_of, record_length, record_of, bytes_of}
-use Rattle.plot.specs.Grammar.{step_at, record_at}
+use Rattle.plot.specs.Grammar.{Step, step_at, record_at}
 use Rattle.plot_promises.specs.Checks.{Check, FirstFails, NoneFails, header_checks, record_checks, Zeros, FaultAt, RecordFault, add_checks}
 use Rattle.plot.specs.Answers.{last_number, checked, located, asked, added, payload_with}
 use Rattle.plot.specs.Numbers.{number_of, place_of, payload_number, payload_place, payload_end, located_number, located_place, located_start, located_length, added_number, added_place, added_start}
@@ -21,12 +18,12 @@ end_of plots = length (bytes_of plots)
 -- an answer to what stands at the place `at`, the payload from there on being s, where a record there has to pass these checks: "A place in the payload moves on one record
 -- at a time."
 pub record StandsExactly (answer : Step) (checks : List Check) (at : ℕ) (s : List ℕ) : Type 0 where
-  pub ends : (answer ≡ End) ↔ Zeros s
+  pub ends : (answer ≡ Ok None) ↔ Zeros s
   -- a record that passes them: where its lines begin, how many they are, and the cursor after it
-  pub goes_on : (lines count : ℕ) (next : Cursor) → (answer ≡ Record lines count next)
+  pub goes_on : (lines count : ℕ) (next : Cursor) → (answer ≡ Ok (Some (record { lines = lines; count = count; next = next })))
       ↔ ((get_or s 0 0 ≢ 0) × NoneFails checks × (lines ≡ at + 5) × (count ≡ count_of s) × (next.at ≡ at + record_length (count_of s)) × (next.last ≡ plot_of s))
   pub refused : (number place : ℕ)
-      → ((r : Refusal) × (answer ≡ Refused r) × (number_of r ≡ number) × (place_of r ≡ place)) ↔ (FaultAt checks s number × (place ≡ at))
+      → ((r : Refusal) × (answer ≡ Err r) × (number_of r ≡ number) × (place_of r ≡ place)) ↔ (FaultAt checks s number × (place ≡ at))
 
 -- with the checks before the lines
 abbrev pub SteppingExactly : ℕ → List ℕ → Type 0
@@ -59,7 +56,7 @@ pub record CheckingExactly (s : List ℕ) : Type 0 where
   pub accepted : (end : ℕ) → ((payload_number (checked s) ≡ 0) × (payload_end (checked s) ≡ end)) ↔ ((plots : List Plot) × Contains s plots × (end ≡ end_of plots))
   pub refused : (number place : ℕ) → number ≢ 0 → ((payload_number (checked s) ≡ number) × (payload_place (checked s) ≡ place)) ↔ RefusedAs s number place
   -- the cursor after the last record, with the last plot's number, 0 if there is none
-  pub cursor : (plots : List Plot) → Contains s plots → checked s ≡ Accepted (record { at = end_of plots; last = last_number 0 plots })
+  pub cursor : (plots : List Plot) → Contains s plots → checked s ≡ Ok (record { at = end_of plots; last = last_number 0 plots })
   -- E5: a value that an answer does not have is 0
   pub unset : (payload_number (checked s) ≡ 0 → payload_place (checked s) ≡ 0) × (payload_number (checked s) ≢ 0 → payload_end (checked s) ≡ 0)
 

@@ -1,3 +1,4 @@
+pub mod Backwards
 pub mod Product
 pub mod Theorems
 pub mod Powers

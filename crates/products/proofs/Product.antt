@@ -8,18 +8,15 @@ use native.Mathlib.Omega.{arith}
 use lib.ListN.{length, replicate}
 use lib.Bits.{bit_and, bit_xor, and_zero_l, and_comm, and_mask, and_shr, and_mod}
 use Rattle.lists.specs.Bytes.{Bytes}
-use Rattle.field.specs.Field.{mul, mul_bits, double, add}
+use Rattle.field.specs.Field.{mul, add}
 use Rattle.field.proofs.Sum.{bit-lt}
 use Rattle.field.proofs.Product.{mul-zero, zero-mul, mul-one, one-mul, mul_comm}
 use Rattle.code.specs.Poly.{padd, pscale}
-use Rattle.code.proofs.Poly.{pscale-mul}
 use Rattle.words.specs.Word.{byte, bytes_from}
-use Rattle.words.specs.Doubles.{bits_at}
+use Rattle.words.specs.Doubles.{Doubled, bits_at}
 use Rattle.words.proofs.Words.{byte-lt, word_bytes, word_sum, same8}
-use Rattle.words.proofs.Bits.{ones, plane_byte, plane_law, sum8, cell_sum, padd8}
+use Rattle.words.proofs.Bits.{ones, plane_byte, plane_law, sum8, cell_sum, padd8, multiples}
 use Rattle.products.specs.Products.{times}
-use Rattle.products.specs.Doubles.{WordDoublesOf}
-use Rattle.products.specs.declared.WordDoubles.{WordDoubles}
 
 -- ---- the cells that a bit of each cell chooses
 
@@ -67,45 +64,24 @@ list_product [] (y ∷ v) ha hv = refl
 list_product (x ∷ a) [] ha hv = refl
 list_product (x ∷ a) (y ∷ v) ha hv = ap₂ ◌∷◌ (cell_product x y ha.0 hv.0) (list_product a v ha.1 hv.1)
 
-pub chosen_sum : (d : WordDoubles) (v p0 p1 p2 p3 p4 p5 p6 p7 : ℕ)
-    → bytes_from 8 0 p0 ≡ times (bits_at 0 (bytes_from 8 0 v)) (bytes_from 8 0 d.d0)
-    → bytes_from 8 0 p1 ≡ times (bits_at 1 (bytes_from 8 0 v)) (bytes_from 8 0 d.d1)
-    → bytes_from 8 0 p2 ≡ times (bits_at 2 (bytes_from 8 0 v)) (bytes_from 8 0 d.d2)
-    → bytes_from 8 0 p3 ≡ times (bits_at 3 (bytes_from 8 0 v)) (bytes_from 8 0 d.d3)
-    → bytes_from 8 0 p4 ≡ times (bits_at 4 (bytes_from 8 0 v)) (bytes_from 8 0 d.d4)
-    → bytes_from 8 0 p5 ≡ times (bits_at 5 (bytes_from 8 0 v)) (bytes_from 8 0 d.d5)
-    → bytes_from 8 0 p6 ≡ times (bits_at 6 (bytes_from 8 0 v)) (bytes_from 8 0 d.d6)
-    → bytes_from 8 0 p7 ≡ times (bits_at 7 (bytes_from 8 0 v)) (bytes_from 8 0 d.d7)
-    → (x : ℕ) → WordDoublesOf x d
+pub chosen_sum : (v x d1 d2 d3 d4 d5 d6 d7 p0 p1 p2 p3 p4 p5 p6 p7 : ℕ) → Doubled (bytes_from 8 0) x d1 d2 d3 d4 d5 d6 d7
+    → bytes_from 8 0 p0 ≡ times (bits_at 0 (bytes_from 8 0 v)) (bytes_from 8 0 x)
+    → bytes_from 8 0 p1 ≡ times (bits_at 1 (bytes_from 8 0 v)) (bytes_from 8 0 d1)
+    → bytes_from 8 0 p2 ≡ times (bits_at 2 (bytes_from 8 0 v)) (bytes_from 8 0 d2)
+    → bytes_from 8 0 p3 ≡ times (bits_at 3 (bytes_from 8 0 v)) (bytes_from 8 0 d3)
+    → bytes_from 8 0 p4 ≡ times (bits_at 4 (bytes_from 8 0 v)) (bytes_from 8 0 d4)
+    → bytes_from 8 0 p5 ≡ times (bits_at 5 (bytes_from 8 0 v)) (bytes_from 8 0 d5)
+    → bytes_from 8 0 p6 ≡ times (bits_at 6 (bytes_from 8 0 v)) (bytes_from 8 0 d6)
+    → bytes_from 8 0 p7 ≡ times (bits_at 7 (bytes_from 8 0 v)) (bytes_from 8 0 d7)
     → bytes_from 8 0 (bit_xor (bit_xor (bit_xor (bit_xor p0 p1) p2) p3) (bit_xor (bit_xor (bit_xor p4 p5) p6) p7)) ≡ times (bytes_from 8 0 x) (bytes_from 8 0 v)
-chosen_sum d v p0 p1 p2 p3 p4 p5 p6 p7 h0 h1 h2 h3 h4 h5 h6 h7 x e =
-    word_sum _ _ (word_sum _ _ (word_sum _ _ (word_sum p0 p1 (h0 ∙ on 0 (ap (bytes_from 8 0) e.0)) (h1 ∙ on 1 e.1)) (h2 ∙ on 2 e.2)) (h3 ∙ on 3 e.3))
-    (word_sum _ _ (word_sum _ _ (word_sum p4 p5 (h4 ∙ on 4 e.4) (h5 ∙ on 5 e.5)) (h6 ∙ on 6 e.6)) (h7 ∙ on 7 e.7))
+chosen_sum v x d1 d2 d3 d4 d5 d6 d7 p0 p1 p2 p3 p4 p5 p6 p7 d h0 h1 h2 h3 h4 h5 h6 h7 =
+    let e = multiples (bytes_from 8 0) x d1 d2 d3 d4 d5 d6 d7 d in
+    word_sum _ _ (word_sum _ _ (word_sum _ _ (word_sum p0 p1 h0 (h1 ∙ on 1 e.0)) (h2 ∙ on 2 e.1)) (h3 ∙ on 3 e.2))
+    (word_sum _ _ (word_sum _ _ (word_sum p4 p5 (h4 ∙ on 4 e.3) (h5 ∙ on 5 e.4)) (h6 ∙ on 6 e.5)) (h7 ∙ on 7 e.6))
     ∙ list_product (bytes_from 8 0 x) (bytes_from 8 0 v) (word_bytes 8 0 x) (word_bytes 8 0 v)
   where
     on : (k : ℕ) {p q : List ℕ} → p ≡ q → times (bits_at k (bytes_from 8 0 v)) p ≡ times (bits_at k (bytes_from 8 0 v)) q
     on k = ap (times (bits_at k (bytes_from 8 0 v)))
-
--- ---- the doubles of a word
-
-pub word_doubles_law : (x x1 x2 x3 x4 x5 x6 x7 : ℕ)
-    → bytes_from 8 0 x1 ≡ pscale 2 (bytes_from 8 0 x)
-    → bytes_from 8 0 x2 ≡ pscale 2 (bytes_from 8 0 x1)
-    → bytes_from 8 0 x3 ≡ pscale 2 (bytes_from 8 0 x2)
-    → bytes_from 8 0 x4 ≡ pscale 2 (bytes_from 8 0 x3)
-    → bytes_from 8 0 x5 ≡ pscale 2 (bytes_from 8 0 x4)
-    → bytes_from 8 0 x6 ≡ pscale 2 (bytes_from 8 0 x5)
-    → bytes_from 8 0 x7 ≡ pscale 2 (bytes_from 8 0 x6)
-    → WordDoublesOf x (record { d0 = x; d1 = x1; d2 = x2; d3 = x3; d4 = x4; d5 = x5; d6 = x6; d7 = x7 })
-unfolding mul mul_bits double add
-word_doubles_law x x1 x2 x3 x4 x5 x6 x7 e1 e2 e3 e4 e5 e6 e7 =
-    let m2 : bytes_from 8 0 x2 ≡ pscale 4 (bytes_from 8 0 x) = e2 ∙ ap (pscale 2) e1 ∙ pscale-mul 2 2 _ in
-    let m3 : bytes_from 8 0 x3 ≡ pscale 8 (bytes_from 8 0 x) = e3 ∙ ap (pscale 2) m2 ∙ pscale-mul 2 4 _ in
-    let m4 : bytes_from 8 0 x4 ≡ pscale 16 (bytes_from 8 0 x) = e4 ∙ ap (pscale 2) m3 ∙ pscale-mul 2 8 _ in
-    let m5 : bytes_from 8 0 x5 ≡ pscale 32 (bytes_from 8 0 x) = e5 ∙ ap (pscale 2) m4 ∙ pscale-mul 2 16 _ in
-    let m6 : bytes_from 8 0 x6 ≡ pscale 64 (bytes_from 8 0 x) = e6 ∙ ap (pscale 2) m5 ∙ pscale-mul 2 32 _ in
-    let m7 : bytes_from 8 0 x7 ≡ pscale 128 (bytes_from 8 0 x) = e7 ∙ ap (pscale 2) m6 ∙ pscale-mul 2 64 _ in
-    (refl, e1, m2, m3, m4, m5, m6, m7)
 
 -- ---- a blank factor, and a cell eight times
 

@@ -2,10 +2,12 @@
 -- are each times α^8.
 use mathlib.Core.Path.{◌≡◌, refl, sym, ap, ap₂, ◌∙◌}
 use mathlib.Core.List.{List, [], ◌∷◌}
-use Prim.Native.Nat.{ℕ, zero, suc, ◌+◌, ◌<◌}
+use Prim.Native.Nat.{ℕ, zero, suc, ◌+◌, ◌/◌, ◌<◌}
 use native.Mathlib.Nat.{add-zero, not-suc-le-zero, le_of_suc-le-suc}
 use native.Mathlib.Omega.{arith}
 use lib.ListN.{length, get_or}
+use Rattle.std.specs.Int.{to_le_bytes}
+use Rattle.std.proofs.Common.{w64}
 use Rattle.field.specs.Field.{alpha}
 use Rattle.field.proofs.Product.{mul_comm}
 use Rattle.field.proofs.Power.{power-add}
@@ -13,6 +15,11 @@ use Rattle.code.specs.Poly.{eval, pscale}
 use Rattle.words.specs.Word.{byte, bytes_from}
 use Rattle.words.proofs.LastCell.{byte_at}
 use Rattle.products.specs.Products.{evals, listed}
+
+-- the cells of a word are its bytes, as the library has them
+pub word_is : (w : ℕ) → bytes_from 8 0 w ≡ to_le_bytes w64 w
+unfolding byte
+word_is w = let e : w / 1 ≡ w = omega arith in rw e refl
 
 pub listed-length : (f : ℕ → ℕ) (n k : ℕ) → length (listed f n k) ≡ n
 unfolding listed

@@ -1,2 +1,3 @@
 pub mod Profile
 pub mod Refusals
+pub mod Numbers

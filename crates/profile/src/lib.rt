@@ -3,12 +3,18 @@
 
 #![tactic(auto)]
 
-ghost use Rattle.std.specs.Prelude.{◌≡◌};
+mod refusals;
+
+ghost use Rattle.std.specs.Prelude.{◌≡◌, Ok, Err};
+ghost use Rattle.profile.specs.Refusals.{refusing};
+ghost use Rattle.profile.specs.declared.refusals.Refusal.TheVariants.{BadProfile, WrongLength};
 ghost use Rattle.profile.specs.Profile.{in_range, message_length, half, is_sparse};
+
+pub use refusals::Refusal;
 
 /// The five numbers of a profile: cells in a block (n), check cells (r), starting power (b), the longest run that may be
 /// corrected (L, `limit`), and blocks in a sheet (D, `depth`).
-#[derive(Clone, Copy)]
+#[derive(Clone, Copy, Debug, PartialEq, Eq)]
 pub struct Profile {
     pub n: usize,
     pub r: usize,
@@ -22,12 +28,7 @@ impl Profile {
     pub fn message_length(self) -> usize
         ensures { result ≡ message_length self }
     {
-        let n = self.n;
-        let r = self.r;
-        if n < r {
-            return 0;
-        }
-        n - r
+        self.n.saturating_sub(self.r)
     }
 
     /// h, half of r rounded down.
@@ -45,6 +46,19 @@ impl Profile {
             return false;
         }
         changed <= length / 2
+    }
+
+    /// Refuses a profile out of range by 1, and then lent buffers that do not fit by 2.
+    pub fn admit(self, fits: bool) -> Result<(), Refusal>
+        ensures { result ≡ refusing self fits (Err BadProfile) (Err WrongLength) (Ok tt) }
+    {
+        if !self.in_range() {
+            return Err(Refusal::BadProfile);
+        }
+        if !fits {
+            return Err(Refusal::WrongLength);
+        }
+        Ok(())
     }
 
     /// Whether all five numbers are in range.

@@ -18,7 +18,6 @@ use Rattle.code.proofs.Split.{back_fed}
 use Rattle.words.specs.Cells.{shift_down, pad_to}
 use Rattle.words.proofs.Pad.{pad_at, pad_zeros, pad_sum, pad_scale, pad_down}
 use Rattle.register.specs.Register.{back_generator, feed_back, feeds_back}
-use Rattle.register.proofs.Multiples.{rows_sum}
 
 tail-padd : (R q : List ℕ) → tail (padd R q) ≡ padd (drop 1 R) (tail q)
 unfolding padd
@@ -52,22 +51,20 @@ back_step_lem b r R h =
     ∙ pad_sum 64 (drop 1 R) (pscale (get_or R 0 0) H)
     ∙ ap (pad_to 64) (sym (step_is b r R))
 
--- the step as a loop makes it: X the register, S it shifted down, L and H the rows of the halves of the lowest cell f, A and N the two sums
-pub back_law : (b r : ℕ) (R X P S L H A N : List ℕ) (f : ℕ) → length R ≤ 64 → X ≡ pad_to 64 R → P ≡ pad_to 64 (back_generator (generator b r)) → f ≡ get_or X 0 0 → S ≡ shift_down X 0
-    → L ≡ pscale (f % 16) P → H ≡ pscale (16 * (f / 16)) P → A ≡ padd S H → N ≡ padd A L → N ≡ pad_to 64 (back_step (generator b r) R)
-back_law b r R X P S L H A N f h eX eP ef eS eL eH eA eN =
-    rows_sum P S L H A N f eL eH eA eN
+-- the step as a loop makes it: X the register, S it shifted down, f the lowest cell, P the generator of the step back, N the sum with f times P
+pub step_back_law : (b r : ℕ) (R X P S N : List ℕ) (f : ℕ) → length R ≤ 64 → X ≡ pad_to 64 R → P ≡ pad_to 64 (back_generator (generator b r)) → f ≡ get_or X 0 0 → S ≡ shift_down X 0
+    → N ≡ padd S (pscale f P) → N ≡ pad_to 64 (back_step (generator b r) R)
+step_back_law b r R X P S N f h eX eP ef eS eN =
+    eN
     ∙ ap₂ padd (eS ∙ ap (λ (u : List ℕ). shift_down u 0) eX) (ap₂ pscale (ef ∙ ap (λ (u : List ℕ). get_or u 0 0) eX) eP)
     ∙ back_step_lem b r R h
 
 -- ---- fed with cells
 
--- a turn of the loop: the feedback is the lowest cell and the cell that comes in
-pub feed_back_law : (P R S L H A N : List ℕ) (x f : ℕ) → f ≡ add (get_or R 0 0) x → S ≡ shift_down R 0
-    → L ≡ pscale (f % 16) P → H ≡ pscale (16 * (f / 16)) P → A ≡ padd S H → N ≡ padd A L → N ≡ feed_back P x R
+-- a turn of the loop: the feedback is the lowest cell and the cell that comes in, S the register moved down, N the sum with f times P
+pub feed_back_law : (P R S N : List ℕ) (x f : ℕ) → f ≡ add (get_or R 0 0) x → S ≡ shift_down R 0 → N ≡ padd S (pscale f P) → N ≡ feed_back P x R
 unfolding feed_back
-feed_back_law P R S L H A N x f ef eS eL eH eA eN =
-    rows_sum P S L H A N f eL eH eA eN ∙ ap₂ (λ (u : List ℕ) (k : ℕ). padd u (pscale k P)) eS ef
+feed_back_law P R S N x f ef eS eN = eN ∙ ap₂ (λ (u : List ℕ) (k : ℕ). padd u (pscale k P)) eS ef
 
 pub feeds_back_on : (G R s : List ℕ) (i : ℕ) → i < length s → feeds_back G R (drop i s) ≡ feeds_back G (feed_back G (get_or s i 0) R) (drop (i + 1) s)
 unfolding feeds_back

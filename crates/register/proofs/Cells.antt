@@ -15,7 +15,7 @@ use Rattle.words.specs.Word.{byte, bytes_from}
 use Rattle.words.specs.Cells.{shift_up, shift_down}
 use Rattle.words.proofs.Linear.{shr}
 use Rattle.words.proofs.Words.{word_bytes, word-xor}
-use Rattle.register.specs.Words.{unpack, words, cells}
+use Rattle.register.specs.Words.{unpack, words, cells, EachWord, EachWithAbove}
 use Rattle.register.specs.declared.Register.{Register}
 
 abbrev pub cat8 : (a b c d e f g h : List ℕ) → List ℕ
@@ -34,46 +34,32 @@ cells-add x y z ea eb ec ed ee ef eg eh = cong8 (w _ _ _ ea) (w _ _ _ eb) (w _ _
     w : (p q r : ℕ) → r ≡ bit_xor p q → bytes_from 8 0 r ≡ padd (bytes_from 8 0 p) (bytes_from 8 0 q)
     w p q r e = ap (bytes_from 8 0) e ∙ word-xor 8 0 p q
 
-module _ (x z : Register) (c : ℕ) where
-  pub cells_up : bytes_from 8 0 z.w0 ≡ shift_up c (bytes_from 8 0 x.w0) → bytes_from 8 0 z.w1 ≡ shift_up (byte x.w0 7) (bytes_from 8 0 x.w1)
-      → bytes_from 8 0 z.w2 ≡ shift_up (byte x.w1 7) (bytes_from 8 0 x.w2) → bytes_from 8 0 z.w3 ≡ shift_up (byte x.w2 7) (bytes_from 8 0 x.w3)
-      → bytes_from 8 0 z.w4 ≡ shift_up (byte x.w3 7) (bytes_from 8 0 x.w4) → bytes_from 8 0 z.w5 ≡ shift_up (byte x.w4 7) (bytes_from 8 0 x.w5)
-      → bytes_from 8 0 z.w6 ≡ shift_up (byte x.w5 7) (bytes_from 8 0 x.w6) → bytes_from 8 0 z.w7 ≡ shift_up (byte x.w6 7) (bytes_from 8 0 x.w7)
-      → cells z ≡ shift_up c (cells x)
-  unfolding cells shift_up byte
-  cells_up p q r s t u v w = cong8 p q r s t u v w
+pub cells_up : (x z : Register) (c : ℕ) → bytes_from 8 0 z.w0 ≡ shift_up c (bytes_from 8 0 x.w0) → bytes_from 8 0 z.w1 ≡ shift_up (byte x.w0 7) (bytes_from 8 0 x.w1)
+    → bytes_from 8 0 z.w2 ≡ shift_up (byte x.w1 7) (bytes_from 8 0 x.w2) → bytes_from 8 0 z.w3 ≡ shift_up (byte x.w2 7) (bytes_from 8 0 x.w3)
+    → bytes_from 8 0 z.w4 ≡ shift_up (byte x.w3 7) (bytes_from 8 0 x.w4) → bytes_from 8 0 z.w5 ≡ shift_up (byte x.w4 7) (bytes_from 8 0 x.w5)
+    → bytes_from 8 0 z.w6 ≡ shift_up (byte x.w5 7) (bytes_from 8 0 x.w6) → bytes_from 8 0 z.w7 ≡ shift_up (byte x.w6 7) (bytes_from 8 0 x.w7)
+    → cells z ≡ shift_up c (cells x)
+unfolding cells shift_up byte
+cells_up x z c p q r s t u v w = cong8 p q r s t u v w
 
-  pub cells_down : bytes_from 8 0 z.w0 ≡ shift_down (bytes_from 8 0 x.w0) (byte x.w1 0)
-      → bytes_from 8 0 z.w1 ≡ shift_down (bytes_from 8 0 x.w1) (byte x.w2 0)
-      → bytes_from 8 0 z.w2 ≡ shift_down (bytes_from 8 0 x.w2) (byte x.w3 0)
-      → bytes_from 8 0 z.w3 ≡ shift_down (bytes_from 8 0 x.w3) (byte x.w4 0)
-      → bytes_from 8 0 z.w4 ≡ shift_down (bytes_from 8 0 x.w4) (byte x.w5 0)
-      → bytes_from 8 0 z.w5 ≡ shift_down (bytes_from 8 0 x.w5) (byte x.w6 0)
-      → bytes_from 8 0 z.w6 ≡ shift_down (bytes_from 8 0 x.w6) (byte x.w7 0)
-      → bytes_from 8 0 z.w7 ≡ shift_down (bytes_from 8 0 x.w7) c
-      → cells z ≡ shift_down (cells x) c
-  unfolding cells shift_down byte
-  cells_down p q r s t u v w = cong8 p q r s t u v w
+-- every cell down by one: the words meet at the cell that passes down, and t gives the last
+pub cells_down : (x z : Register) (c t : ℕ) → byte t 0 ≡ c
+    → EachWithAbove (λ w above r. bytes_from 8 0 r ≡ shift_down (bytes_from 8 0 w) (byte above 0)) x t z
+    → cells z ≡ shift_down (cells x) c
+unfolding cells shift_down byte
+cells_down x z c t e h = cong8 h.0 h.1 h.2 h.3 h.4 h.5 h.6 (h.7 ∙ ap (shift_down (bytes_from 8 0 x.w7)) e)
 
 -- a sum with a multiple of what stands a cell above
-module _ (x z : Register) (a t c : ℕ) (e : byte t 0 ≡ c) where
-  abbrev Rooted : ℕ → ℕ → ℕ → Type 0
-  Rooted v w above = bytes_from 8 0 v ≡ padd (bytes_from 8 0 w) (pscale a (shift_down (bytes_from 8 0 w) above))
+pub cells-rooted : (x z : Register) (a t c : ℕ) → byte t 0 ≡ c
+    → EachWithAbove (λ w above r. bytes_from 8 0 r ≡ padd (bytes_from 8 0 w) (pscale a (shift_down (bytes_from 8 0 w) (byte above 0)))) x t z
+    → cells z ≡ padd (cells x) (pscale a (shift_down (cells x) c))
+unfolding cells shift_down padd pscale
+cells-rooted x z a t c e h =
+    cong8 h.0 h.1 h.2 h.3 h.4 h.5 h.6 (h.7 ∙ ap (λ (k : ℕ). padd (bytes_from 8 0 x.w7) (pscale a (shift_down (bytes_from 8 0 x.w7) k))) e)
 
-  pub cells-rooted : Rooted z.w0 x.w0 (byte x.w1 0) → Rooted z.w1 x.w1 (byte x.w2 0) → Rooted z.w2 x.w2 (byte x.w3 0) → Rooted z.w3 x.w3 (byte x.w4 0)
-      → Rooted z.w4 x.w4 (byte x.w5 0) → Rooted z.w5 x.w5 (byte x.w6 0) → Rooted z.w6 x.w6 (byte x.w7 0) → Rooted z.w7 x.w7 (byte t 0)
-      → cells z ≡ padd (cells x) (pscale a (shift_down (cells x) c))
-  unfolding cells shift_down padd pscale
-  cells-rooted h0 h1 h2 h3 h4 h5 h6 h7 =
-      cong8 h0 h1 h2 h3 h4 h5 h6 (h7 ∙ ap (λ (k : ℕ). padd (bytes_from 8 0 x.w7) (pscale a (shift_down (bytes_from 8 0 x.w7) k))) e)
-
-pub cells_scaled : (k : ℕ) (x z : Register) → bytes_from 8 0 z.w0 ≡ pscale k (bytes_from 8 0 x.w0) → bytes_from 8 0 z.w1 ≡ pscale k (bytes_from 8 0 x.w1)
-    → bytes_from 8 0 z.w2 ≡ pscale k (bytes_from 8 0 x.w2) → bytes_from 8 0 z.w3 ≡ pscale k (bytes_from 8 0 x.w3)
-    → bytes_from 8 0 z.w4 ≡ pscale k (bytes_from 8 0 x.w4) → bytes_from 8 0 z.w5 ≡ pscale k (bytes_from 8 0 x.w5)
-    → bytes_from 8 0 z.w6 ≡ pscale k (bytes_from 8 0 x.w6) → bytes_from 8 0 z.w7 ≡ pscale k (bytes_from 8 0 x.w7)
-    → cells z ≡ pscale k (cells x)
+pub cells_scaled : (k : ℕ) (x z : Register) → EachWord (λ w r. bytes_from 8 0 r ≡ pscale k (bytes_from 8 0 w)) x z → cells z ≡ pscale k (cells x)
 unfolding cells pscale
-cells_scaled k x z p q r s t u v w = cong8 p q r s t u v w
+cells_scaled k x z h = cong8 h.0 h.1 h.2 h.3 h.4 h.5 h.6 h.7
 
 pub cells_bottom : (x : Register) → x.w0 % 256 ≡ get_or (cells x) 0 0
 unfolding cells byte
@@ -83,13 +69,13 @@ cells_top : (x : Register) → x.w7 < 2 ^ 64 → shr 56 x.w7 ≡ get_or (cells x
 unfolding cells byte
 cells_top x h = sym (mod-eq_of_lt (omega arith))
 
-pub feedback_is : (x : Register) (c : ℕ) → x.w7 < 2 ^ 64 → c < 256 → (bit_xor (shr 56 x.w7) c ≡ add (get_or (cells x) 63 0) c) × (bit_xor (shr 56 x.w7) c < 256)
+pub feedback_is : (x : Register) (c : ℕ) → x.w7 < 2 ^ 64 → bit_xor (shr 56 x.w7) c ≡ add (get_or (cells x) 63 0) c
 unfolding add
-feedback_is x c h hc = (ap (λ (t : ℕ). bit_xor t c) (cells_top x h), add-lt (shr 56 x.w7) c (omega arith) hc)
+feedback_is x c h = ap (λ (t : ℕ). bit_xor t c) (cells_top x h)
 
-pub feedback_below_is : (x : Register) (c : ℕ) → c < 256 → (bit_xor (x.w0 % 256) c ≡ add (get_or (cells x) 0 0) c) × (bit_xor (x.w0 % 256) c < 256)
+pub feedback_below_is : (a b c : ℕ) → b ≡ a → bit_xor b c ≡ add a c
 unfolding add
-feedback_below_is x c hc = (ap (λ (t : ℕ). bit_xor t c) (cells_bottom x), add-lt (x.w0 % 256) c (omega arith) hc)
+feedback_below_is a b c e = ap (λ (t : ℕ). bit_xor t c) e
 
 unpack-bytes : (ws : List ℕ) → Bytes (unpack ws)
 unpack-bytes [] = tt

@@ -1,10 +1,10 @@
 -- The forward step over 64 cells, as the loop makes it: two rows are added, and the cells that are left make the rest of the definition.
 use mathlib.Core.Path.{◌≡◌, refl, sym, ap, ap₂, ◌∙◌}
-use mathlib.Core.List.{List, [], ◌∷◌}
+use mathlib.Core.List.{List, [], ◌∷◌, ◌++◌}
 use Prim.Native.Nat.{ℕ, zero, suc, ◌+◌, ◌-◌, ◌*◌, ◌/◌, ◌%◌, ◌≤◌, ◌<◌}
 use native.Mathlib.Omega.{arith}
-use lib.ListN.{length, get_or, take, drop, replicate, length-append, length-replicate, length-take, replicate-append-replicate}
-use lib.Seq.{drop-cons, drop-length, take_all}
+use lib.ListN.{length, get_or, take, replicate, length-append, length-replicate, length-take, replicate-append-replicate}
+use lib.Seq.{take_all}
 use Rattle.code.specs.Poly.{padd, pscale}
 use Rattle.field.specs.Field.{add}
 use Rattle.words.specs.Cells.{shift_up}
@@ -12,28 +12,27 @@ use Rattle.register.specs.Words.{cells}
 use Rattle.register.specs.Register.{feed, feeds, on_top}
 use Rattle.register.specs.declared.Register.{Register}
 use Rattle.register.proofs.Cells.{take_cells}
-use Rattle.register.proofs.Multiples.{rows_sum}
 use Rattle.register.proofs.Align.{low_up, low_scale, low_sum, low_at}
 
--- a turn of the loop: the feedback is the highest cell and the cell that comes in
-pub feed_law : (p : Register) (R S L H A N : List ℕ) (x f : ℕ) → f ≡ add (get_or R 63 0) x → S ≡ shift_up 0 R
-    → L ≡ pscale (f % 16) (cells p) → H ≡ pscale (16 * (f / 16)) (cells p) → A ≡ padd S H → N ≡ padd A L → N ≡ feed 64 (cells p) x R
+-- a turn of the loop: the feedback is the highest cell and the cell that comes in, S the register moved up, N the sum with f times p
+pub feed_law : (p : Register) (R S N : List ℕ) (x f : ℕ) → f ≡ add (get_or R 63 0) x → S ≡ shift_up 0 R → N ≡ padd S (pscale f (cells p)) → N ≡ feed 64 (cells p) x R
 unfolding feed
-feed_law p R S L H A N x f ef eS eL eH eA eN =
-    rows_sum (cells p) S L H A N f eL eH eA eN
+feed_law p R S N x f ef eS eN =
+    eN
     ∙ ap₂ (λ (u : List ℕ) (k : ℕ). padd u (pscale k (cells p))) eS ef
     ∙ ap (λ (g : List ℕ). padd (shift_up 0 R) (pscale (add (get_or R 63 0) x) g)) (sym (take_cells p))
 
-pub feeds-more : (r : ℕ) (G s : List ℕ) (i : ℕ) → 0 < i → i ≤ length s → feeds r G (drop (i - 1) s) ≡ feed r G (get_or s (i - 1) 0) (feeds r G (drop i s))
+pub feeds_cons : (r : ℕ) (G : List ℕ) (x : ℕ) (s : List ℕ) → feed r G x (feeds r G s) ≡ feeds r G (x ∷ s)
 unfolding feeds
-feeds-more r G s zero p l = absurd (omega arith)
-feeds-more r G s (suc i) p l =
-    let e : suc i - 1 ≡ i = omega arith in
-    rw (e, drop-cons s i 0 l)
+feeds_cons r G x s = refl
 
-pub feeds-none : (r : ℕ) (G s : List ℕ) → feeds r G (drop (length s) s) ≡ replicate r 0
+pub feeds_none : (r : ℕ) (G : List ℕ) → feeds r G [] ≡ replicate r 0
 unfolding feeds
-feeds-none r G s = rw drop-length
+feeds_none r G = refl
+
+pub all_taken : (s rest taken : List ℕ) → s ≡ rest ++ taken → length rest ≡ 0 → s ≡ taken
+all_taken s [] taken e z = e
+all_taken s (x ∷ rest) taken e z = absurd (omega arith)
 
 -- ---- r cells on top: the zeros below stay
 

@@ -1,13 +1,13 @@
 -- The generator at the top of a register, root by root, and the generator of the step back at the bottom. A further root a makes of g the sum of
 -- a g and x g (code's generator-suc); the register holds all of g but the cell 1 on top.
-use mathlib.Core.Path.{◌≡◌, refl, sym, ap, ap₂, ◌∙◌, subst}
+use mathlib.Core.Path.{◌≡◌, refl, sym, ap, ap₂, ◌∙◌}
 use mathlib.Core.List.{List, [], ◌∷◌, ◌++◌, append_assoc}
 use Prim.Native.Nat.{ℕ, zero, suc, ◌+◌, ◌-◌, ◌<◌, ◌≤◌}
 use native.Mathlib.Omega.{arith}
 use native.Mathlib.Numerals.{add-one}
 use lib.ListN.{length, get_or, take, drop, replicate, length-replicate, drop_of_length-le, get_or-append}
 use lib.Seq.{take-length, take-suc, take_all, drop-nil, drop_at, get_or-drop}
-use Rattle.field.specs.Field.{add, mul, inverse, alpha}
+use Rattle.field.specs.Field.{add, inverse, alpha}
 use Rattle.field.proofs.Product.{mul-two}
 use Rattle.field.proofs.Turns.{alpha-turn}
 use Rattle.field.proofs.Laws.{alpha_laws}
@@ -16,8 +16,7 @@ use Rattle.code.specs.Code.{generator}
 use Rattle.code.specs.Run.{tail}
 use Rattle.code.proofs.Poly.{padd_comm, pscale-length}
 use Rattle.code.proofs.Generator.{generator-length, generator_monic, generator-suc}
-use Rattle.words.specs.Doubles.{DoublesOf}
-use Rattle.words.specs.declared.Doubles.{Doubles}
+use Rattle.words.proofs.Bits.{first_cell}
 use Rattle.words.specs.Cells.{shift_down, pad_to}
 use Rattle.words.proofs.Pad.{pad_at, pad_scale}
 use Rattle.register.specs.Register.{on_top, monic_of, back_generator}
@@ -83,16 +82,11 @@ top_more b i G N h eG eN =
 pub top_none : (b : ℕ) (G : List ℕ) → G ≡ replicate 64 0 → G ≡ on_top 0 (take 0 (generator b 0))
 top_none b G e = e
 
--- the doubles of one root give those of the next
-pub next_root : (b i : ℕ) (d : Doubles) → DoublesOf (mul 2 (alpha (b + i))) d → DoublesOf (alpha (b + (i + 1))) d
-next_root b i d h =
-    let e : b + i + 1 ≡ b + (i + 1) = omega arith in
-    subst (λ (v : ℕ). DoublesOf v d) (alpha-turn (b + i) (alpha (b + i)) (mul 2 (alpha (b + i))) refl (mul-two (alpha (b + i)) (alpha_laws.byte (b + i))) ∙ ap alpha e) h
-
-pub first_root : (b a : ℕ) (d : Doubles) → a ≡ alpha b → DoublesOf a d → DoublesOf (alpha (b + 0)) d
-first_root b a d e h =
-    let z : b ≡ b + 0 = omega arith in
-    subst (λ (v : ℕ). DoublesOf v d) (e ∙ ap alpha z) h
+-- a root's double is the next root
+pub next_root : (b i a v : ℕ) → a ≡ alpha (b + i) → v ∷ [] ≡ pscale 2 (a ∷ []) → v ≡ alpha (b + (i + 1))
+next_root b i a v h e =
+    let n : b + i + 1 ≡ b + (i + 1) = omega arith in
+    alpha-turn (b + i) a v h (first_cell 2 a v e ∙ mul-two a (rw h (alpha_laws.byte (b + i)))) ∙ ap alpha n
 
 -- ---- at the bottom
 

@@ -5,7 +5,7 @@ use Prim.Native.Nat.{ℕ, zero, suc, ◌+◌, ◌*◌, ◌/◌, ◌%◌, ◌≤�
 use native.Mathlib.Omega.{arith}
 use native.Mathlib.Numerals.{add-one}
 use native.Mathlib.Nat.{zero-add, suc-add}
-use lib.ListN.{length, get_or, set, take, drop, length-drop}
+use lib.ListN.{length, get_or, set, take, drop}
 use lib.Seq.{drop-drop, drop-nil, take-suc, take-suc-set, take_all}
 use Rattle.words.specs.Word.{byte, bytes_from}
 use Rattle.words.specs.Cells.{shift_down, pad_to}
@@ -49,19 +49,20 @@ load_words x s a b c d e f g h = cong8 a b c d e f g h ∙ chunks_pad 8 0 s
 pub lower-none : (x : Register) → cells x ≡ pad_to 64 (cells x)
 lower-none x = sym (pad_full 64 (cells x) (cells-length x))
 
-pub lower-more : (C X N : List ℕ) (i : ℕ) → length C ≡ 64 → X ≡ pad_to 64 (drop i C) → N ≡ shift_down X 0 → N ≡ pad_to 64 (drop (i + 1) C)
-lower-more C X N i l eX eN =
-    eN ∙ ap (λ (u : List ℕ). shift_down u 0) eX ∙ pad_down 64 (drop i C) (omega (arith, length-drop i C)) ∙ ap (pad_to 64) (drop-drop 1 i C)
+-- one step more, where each moves the cells down by n
+pub lower-more : (n : ℕ) (C X N : List ℕ) (i : ℕ) → length C ≡ 64 → X ≡ pad_to 64 (drop (n * i) C) → N ≡ pad_to 64 (drop n X) → N ≡ pad_to 64 (drop (n * (i + 1)) C)
+lower-more n C X N i l eX eN =
+    let e : n * i + n ≡ n * (i + 1) = grind arith in
+    eN ∙ ap (λ (u : List ℕ). pad_to 64 (drop n u)) eX ∙ drop_pad n (n * i) 64 C (omega arith) ∙ ap (λ (k : ℕ). pad_to 64 (drop k C)) e
+
+pub lower-one : (x : Register) (N : List ℕ) → N ≡ shift_down (cells x) 0 → N ≡ pad_to 64 (drop 1 (cells x))
+lower-one x N e =
+    e ∙ ap (λ (u : List ℕ). shift_down u 0) (lower-none x) ∙ pad_down 64 (cells x) (omega (arith, cells-length x))
 
 pub word-lower_law : (x : Register) (w : ℕ) → w ≡ 0
     → cells (record { w0 = x.w1; w1 = x.w2; w2 = x.w3; w3 = x.w4; w4 = x.w5; w5 = x.w6; w6 = x.w7; w7 = 0 }) ≡ pad_to 64 (drop 8 (cells x))
 unfolding cells byte pad_to
 word-lower_law x w e = refl
-
-pub lower-word-more : (C X N : List ℕ) (i : ℕ) → length C ≡ 64 → X ≡ pad_to 64 (drop (8 * i) C) → N ≡ pad_to 64 (drop 8 X) → N ≡ pad_to 64 (drop (8 * (i + 1)) C)
-lower-word-more C X N i l eX eN =
-    let e : 8 * i + 8 ≡ 8 * (i + 1) = omega arith in
-    eN ∙ ap (λ (u : List ℕ). pad_to 64 (drop 8 u)) eX ∙ drop_pad 8 (8 * i) 64 C (omega arith) ∙ ap (λ (k : ℕ). pad_to 64 (drop k C)) e
 
 pub lowered_law : (x : Register) (X N : List ℕ) (n : ℕ) → X ≡ pad_to 64 (drop (8 * (n / 8)) (cells x)) → N ≡ pad_to 64 (drop (n % 8) X) → N ≡ pad_to 64 (drop n (cells x))
 lowered_law x X N n eX eN =

@@ -3,21 +3,24 @@
 
 #![tactic(auto)]
 
-ghost use Rattle.std.specs.Prelude.{◌≡◌, ℕ, ◌<◌, ◌*◌, ◌-◌, ◌/◌, ◌%◌, ◌^◌, min, eqb, get_or, take, drop, replicate};
+ghost use Rattle.std.specs.Prelude.{◌≡◌, ◌==◌, not, count_by, ℕ, ◌<◌, ◌*◌, ◌-◌, ◌/◌, ◌%◌, ◌^◌, min, eqb, get_or, take, drop, replicate};
 ghost use Rattle.field.specs.Field.{add};
 ghost use Rattle.code.specs.Poly.{padd, pscale};
 ghost use Rattle.code.specs.Code.{generator, weight};
 ghost use Rattle.code.specs.Search.{extent};
 ghost use Rattle.words.specs.Cells.{shift_up, shift_down, pad_to};
-ghost use Rattle.words.specs.Doubles.{DoublesOf};
-ghost use Rattle.register.specs.Words.{cells};
+ghost use Rattle.register.specs.Words.{cells, EachWord, EachWithAbove};
 ghost use Rattle.register.specs.Register.{feeds, feeds_back, on_top, monic_of, back_generator};
 
 use words::Doubles;
 
+mod byte_multiples;
 mod lower;
 
+pub use byte_multiples::ByteMultiples;
+
 /// Eight words of eight cells; the lowest cell is the lowest byte of w0.
+// Eight fields and no array: that an array's list has eight words would be a ghost field here, and Clone and Copy are not derived over one.
 #[derive(Clone, Copy)]
 pub struct Register {
     pub w0: u64,
@@ -78,20 +81,45 @@ pub fn push_bottom(x: Register, c: u8) -> Register
     }
 }
 
+// The register of what f gives of each word.
+fn map<F: Fn(u64) -> u64>(x: Register, f: F) -> Register
+    requires { F.IsAlwaysCallable f }
+    ensures { EachWord (F.post f) x result }
+{
+    Register {
+        w0: f(x.w0),
+        w1: f(x.w1),
+        w2: f(x.w2),
+        w3: f(x.w3),
+        w4: f(x.w4),
+        w5: f(x.w5),
+        w6: f(x.w6),
+        w7: f(x.w7),
+    }
+}
+
+// The register of what f gives of each word and the word above it; above the highest stands top.
+fn map_with_above<F: Fn(u64, u64) -> u64>(x: Register, top: u64, f: F) -> Register
+    requires { F.IsAlwaysCallable f }
+    ensures { EachWithAbove (F.post f) x top result }
+{
+    Register {
+        w0: f(x.w0, x.w1),
+        w1: f(x.w1, x.w2),
+        w2: f(x.w2, x.w3),
+        w3: f(x.w3, x.w4),
+        w4: f(x.w4, x.w5),
+        w5: f(x.w5, x.w6),
+        w6: f(x.w6, x.w7),
+        w7: f(x.w7, top),
+    }
+}
+
 /// Every cell moves down by one, and c comes in on top.
 pub fn push_top(x: Register, c: u8) -> Register
     ensures { cells result ≡ shift_down (cells x) c }
 {
-    Register {
-        w0: words::word_down(x.w0, x.w1),
-        w1: words::word_down(x.w1, x.w2),
-        w2: words::word_down(x.w2, x.w3),
-        w3: words::word_down(x.w3, x.w4),
-        w4: words::word_down(x.w4, x.w5),
-        w5: words::word_down(x.w5, x.w6),
-        w6: words::word_down(x.w6, x.w7),
-        w7: words::word_down(x.w7, words::at_bottom(c)),
-    }
+    map_with_above(x, words::at_bottom(c), words::word_down)
 }
 
 /// Every cell moves up by one, and zero comes in below.
@@ -108,41 +136,32 @@ pub fn shift_down(x: Register) -> Register
     push_top(x, 0)
 }
 
-/// The feedback of division: the sum of the highest cell and the cell that comes in, as an index.
-pub fn feedback(x: Register, c: u8) -> usize
-    ensures { (result ≡ add (get_or (cells x) 63 0) c) × (result < 256) }
+/// The feedback of division: the sum of the highest cell and the cell that comes in.
+pub fn feedback(x: Register, c: u8) -> u8
+    ensures { result ≡ add (get_or (cells x) 63 0) c }
 {
-    ((x.w7 >> 56) as usize) ^ (c as usize)
+    (x.w7 >> 56) as u8 ^ c
 }
 
-// The feedback of division backwards: the sum of the lowest cell and the cell that comes in, as an index.
-fn feedback_below(x: Register, c: u8) -> usize
-    ensures { (result ≡ add (get_or (cells x) 0 0) c) × (result < 256) }
+/// The lowest cell.
+pub fn bottom(x: Register) -> u8
+    ensures { result ≡ get_or (cells x) 0 0 }
 {
-    ((x.w0 % 256) as usize) ^ (c as usize)
+    (x.w0 % 256) as u8
 }
 
-/// The lowest cell, as an index.
-pub fn bottom(x: Register) -> usize
-    ensures { (result ≡ get_or (cells x) 0 0) × (result < 256) }
+// The feedback of division backwards: the sum of the lowest cell and the cell that comes in.
+fn feedback_below(x: Register, c: u8) -> u8
+    ensures { result ≡ add (get_or (cells x) 0 0) c }
 {
-    (x.w0 % 256) as usize
+    bottom(x) ^ c
 }
 
 /// Each cell doubled.
 pub fn twice(x: Register) -> Register
     ensures { cells result ≡ pscale 2 (cells x) }
 {
-    Register {
-        w0: words::word_twice(x.w0),
-        w1: words::word_twice(x.w1),
-        w2: words::word_twice(x.w2),
-        w3: words::word_twice(x.w3),
-        w4: words::word_twice(x.w4),
-        w5: words::word_twice(x.w5),
-        w6: words::word_twice(x.w6),
-        w7: words::word_twice(x.w7),
-    }
+    map(x, words::word_twice)
 }
 
 /// The sixteen multiples of a register by the numbers below 16.
@@ -190,48 +209,30 @@ pub fn high_rows(x: Register) -> [Register; 16]
     rows(twice(twice(twice(twice(x)))))
 }
 
-/// The register after all cells of the input, from the last to the first, with g as the low cells of the generator: the rows of the two
-/// halves of each feedback are added. The sum with the low half is last, since its row is found a little later.
+/// The register after all cells of the input, from the last to the first, with g as the low cells of the generator: at each step the multiple of g by the
+/// feedback is added.
 pub fn divide(g: Register, input: &[u8]) -> Register
     ensures { cells result ≡ feeds 64 (cells g) input.now }
 {
-    let low = rows(g);
-    let high = high_rows(g);
+    let multiples = ByteMultiples::of(g);
     let mut x = blank();
-    let mut i = input.len();
-    while 0 < i {
-        i -= 1;
-        let f = feedback(x, input[i]);
-        let next = add(add(shift_up(x), high[f / 16]), low[f % 16]);
-        x = next;
+    for c in input.iter().rev() {
+        x = multiples.add_to(shift_up(x), feedback(x, *c));
     }
     x
 }
 
 /// The register after all cells of the input, from the first to the last, with g as the generator of the step back: each cell is added to the lowest one,
-/// and the rows of the two halves of the sum take the step.
+/// and the multiple of g by the sum takes the step.
 pub fn divide_back(g: Register, input: &[u8]) -> Register
     ensures { cells result ≡ feeds_back (cells g) (replicate 64 0) input.now }
 {
-    let low = rows(g);
-    let high = high_rows(g);
+    let multiples = ByteMultiples::of(g);
     let mut x = blank();
-    let mut i: usize = 0;
-    while i < input.len() {
-        let c = input[i];
-        i += 1;
-        let f = feedback_below(x, c);
-        let next = add(add(shift_down(x), high[f / 16]), low[f % 16]);
-        x = next;
+    for c in input {
+        x = multiples.add_to(shift_down(x), feedback_below(x, *c));
     }
     x
-}
-
-// A count of cells, at most the 64 that a register has.
-fn clamp(r: usize) -> usize
-    ensures { result ≡ min r 64 }
-{
-    words::least(r, 64)
 }
 
 /// The first 64 cells of a slice from the lowest cell on, with zeros where it has fewer.
@@ -256,10 +257,8 @@ pub fn low_cells(x: Register) -> [u8; 64]
 {
     let w = [x.w0, x.w1, x.w2, x.w3, x.w4, x.w5, x.w6, x.w7];
     let mut out = [0u8; 64];
-    let mut i: usize = 0;
-    while i < 64 {
+    for i in 0..64 {
         out[i] = words::cell_at(w[i / 8], i % 8);
-        i += 1;
     }
     out
 }
@@ -268,7 +267,7 @@ pub fn low_cells(x: Register) -> [u8; 64]
 pub fn lowered(x: Register, r: usize) -> Register
     ensures { cells result ≡ pad_to 64 (drop (64 - min r 64) (cells x)) }
 {
-    let n = 64 - clamp(r);
+    let n = 64 - r.min(64);
     lower::lower_cells(lower::lower_words(x, n / 8), n % 8)
 }
 
@@ -307,67 +306,48 @@ pub fn is_zero(x: Register) -> bool
     extent(x) == 0
 }
 
+// How many of the cells pass the test.
+fn nonzero_count(cells: &[u8; 64]) -> usize
+    ensures { result ≡ count_by (λ c. not (c == 0)) cells.now }
+{
+    cells.iter().filter(|c| **c != 0).count()
+}
+
 /// How many cells are not zero.
 pub fn weight(x: Register) -> usize
     ensures { result ≡ weight (cells x) }
 {
-    let cell = low_cells(x);
-    let mut w: usize = 0;
-    let mut i: usize = 0;
-    while i < 64 {
-        w += words::nonzero(cell[i]);
-        i += 1;
-    }
-    w
+    nonzero_count(&low_cells(x))
 }
 
 /// Each cell times a.
 pub fn scale(a: u8, x: Register) -> Register
     ensures { cells result ≡ pscale a (cells x) }
 {
-    let d = words::doubles_of(a);
-    Register {
-        w0: words::word_scale(d, x.w0),
-        w1: words::word_scale(d, x.w1),
-        w2: words::word_scale(d, x.w2),
-        w3: words::word_scale(d, x.w3),
-        w4: words::word_scale(d, x.w4),
-        w5: words::word_scale(d, x.w5),
-        w6: words::word_scale(d, x.w6),
-        w7: words::word_scale(d, x.w7),
-    }
+    let d = Doubles::of(a);
+    map(x, |w| words::word_scale(&d, w))
 }
 
 // A generator's low cells with a further root a, of which the doubles are given: the cells, and a times the cells moved down by one with 1 on top.
-fn with_root(d: Doubles, g: Register) -> Register
-    ensures { (a : ℕ) → DoublesOf a d → cells result ≡ padd (cells g) (pscale a (shift_down (cells g) 1)) }
+fn with_root(d: &Doubles<u8>, g: Register) -> Register
+    ensures { cells result ≡ padd (cells g) (pscale d.now.c0 (shift_down (cells g) 1)) }
 {
-    Register {
-        w0: words::word_root(d, g.w0, g.w1),
-        w1: words::word_root(d, g.w1, g.w2),
-        w2: words::word_root(d, g.w2, g.w3),
-        w3: words::word_root(d, g.w3, g.w4),
-        w4: words::word_root(d, g.w4, g.w5),
-        w5: words::word_root(d, g.w5, g.w6),
-        w6: words::word_root(d, g.w6, g.w7),
-        w7: words::word_root(d, g.w7, words::at_bottom(1)),
-    }
+    map_with_above(
+        g,
+        words::at_bottom(1),
+        |w, above| words::word_root(d, w, above),
+    )
 }
 
 /// The low r cells of the generator with the roots α^b, α^(b+1), .. as the highest of the register; r counts as at most 64.
 pub fn generator_top(b: usize, r: usize) -> Register
     ensures { cells result ≡ on_top (min r 64) (take (min r 64) (generator b (min r 64))) }
 {
-    let n = clamp(r);
     let mut g = blank();
-    let mut d = words::doubles_of(field::alpha_power(b));
-    let mut i: usize = 0;
-    while i < n {
-        let next = with_root(d, g);
-        g = next;
-        let twofold = words::next_doubles(d);
-        d = twofold;
-        i += 1;
+    let mut d = Doubles::of(field::alpha_power(b));
+    for _ in 0..r.min(64) {
+        g = with_root(&d, g);
+        d = d.next();
     }
     g
 }
@@ -377,6 +357,6 @@ pub fn generator_top(b: usize, r: usize) -> Register
 pub fn generator_bottom(g: Register, r: usize) -> Register
     ensures { cells result ≡ pad_to 64 (back_generator (monic_of (min r 64) (cells g))) }
 {
-    let c = bottom(lowered(g, r)) as u8;
+    let c = bottom(lowered(g, r));
     scale(field::inverse(c), lowered(push_top(g, 1), r))
 }

@@ -1,5 +1,6 @@
 // The cells of a register moved down by any number of places, zeros coming in on top: by whole words, and cell by cell.
-ghost use Rattle.std.specs.Prelude.{◌≡◌, ◌*◌, drop};
+
+ghost use Rattle.std.specs.Prelude.{◌≡◌, ℕ, ◌*◌, drop};
 ghost use Rattle.words.specs.Cells.{pad_to};
 ghost use Rattle.register.specs.Words.{cells};
 
@@ -21,30 +22,37 @@ fn word_lower(x: Register) -> Register
     }
 }
 
+// One cell down.
+fn cell_lower(x: Register) -> Register
+    ensures { cells result ≡ pad_to 64 (drop 1 (cells x)) }
+{
+    shift_down(x)
+}
+
+// A step that moves the cells down by `size` places, n times.
+fn repeated<F: Fn(Register) -> Register>(step: F, x: Register, n: usize) -> Register
+    ghost size: { ℕ }
+    requires callable { F.IsAlwaysCallable step }
+    requires moves { (r s : Register) → F.post step r s → cells s ≡ pad_to 64 (drop size (cells r)) }
+    ensures { cells result ≡ pad_to 64 (drop (size * n) (cells x)) }
+{
+    let mut rest = x;
+    for _ in 0..n {
+        rest = step(rest);
+    }
+    rest
+}
+
 // 8 n cells down.
 pub(crate) fn lower_words(x: Register, n: usize) -> Register
     ensures { cells result ≡ pad_to 64 (drop (8 * n) (cells x)) }
 {
-    let mut rest = x;
-    let mut i: usize = 0;
-    while i < n {
-        let next = word_lower(rest);
-        rest = next;
-        i += 1;
-    }
-    rest
+    repeated(word_lower, x, n)
 }
 
 // n cells down.
 pub(crate) fn lower_cells(x: Register, n: usize) -> Register
     ensures { cells result ≡ pad_to 64 (drop n (cells x)) }
 {
-    let mut rest = x;
-    let mut i: usize = 0;
-    while i < n {
-        let next = shift_down(rest);
-        rest = next;
-        i += 1;
-    }
-    rest
+    repeated(cell_lower, x, n)
 }

@@ -10,7 +10,7 @@ use Rattle.lists.proofs.Bytes.{drop-bytes}
 use Rattle.profile.specs.Profile.{InRange, message_length}
 use Rattle.profile.specs.declared.Profile.{Profile}
 use Rattle.sheet.specs.declared.Mode.{Mode}
-use Rattle.sheet.specs.declared.Reading.TheVariants.{Accepted}
+use Rattle.std.specs.Prelude.{Ok}
 use Rattle.sheet.specs.Sheet.{read_block, differ, read_answer, read_payload}
 use Rattle.sheet.specs.Numbers.{reading_number, reading_changed}
 use Rattle.sheet.specs.Buffers.{Payload, Lent, differing}
@@ -21,7 +21,7 @@ use Rattle.lists.proofs.Sum.{small-sum}
 use Rattle.sheet.proofs.Theorems.{read-results}
 
 module _ (mode : Mode) (p : Profile) (sheet scratch out : List ℕ) (v : InRange p) (h : Lent p sheet scratch out) (changed : ℕ)
-    (q : read_answer mode p sheet scratch out ≡ Accepted changed) where
+    (q : read_answer mode p sheet scratch out ≡ Ok changed) where
   number : reading_number (read_answer mode p sheet scratch out) ≡ 0
   number = ap reading_number q
 

@@ -1,15 +1,16 @@
 -- Putting blocks and messages together and taking them apart again. Each law compares cell by cell, by the quotient and the remainder
 -- of a place.
-use mathlib.Core.Path.{◌≡◌, refl, sym, ap, ap₂, subst, ◌∙◌}
+use mathlib.Core.Path.{◌≡◌, sym, ap, ap₂, subst, ◌∙◌}
 use mathlib.Core.Logic.{⊎_elim}
 use mathlib.Core.List.{List, ◌++◌, append-nil}
 use Prim.Native.Nat.{ℕ, zero, suc, ◌+◌, ◌*◌, ◌-◌, ◌/◌, ◌%◌, ◌<◌, ◌≤◌, zero-le, suc-le-suc}
-use native.Mathlib.Nat.{mul_comm, suc-mul, add-mul, zero-mul, not-suc-le-zero, eq-or-lt_of_le}
+use native.Mathlib.Nat.{mul-le-mul_right, mul_comm, suc-mul, add-mul, zero-mul, eq-or-lt_of_le}
 use native.Mathlib.Numerals.{add-one}
 use native.Mathlib.Omega.{arith}
-use lib.ListN.{length, get_or, set, drop, length-drop, drop_of_length-le}
+use lib.ListN.{length, get_or, set, take, drop, length-drop, length-append, drop_of_length-le}
 use borrow.Rule.Slice.PartMut.{put_mid}
-use lib.Seq.{length-take-le, get_or-take, get_or-drop, ext_get_or, get_or-set_same, get_or-set_other}
+use lib.Seq.{drop-drop, take_at, drop_at, length-take-le, get_or-take, get_or-drop, ext_get_or, get_or-set_same, get_or-set_other}
+use Rattle.lists.proofs.Test.{lt-or_ge}
 use Rattle.lists.specs.Bytes.{Bytes}
 use Rattle.lists.proofs.Bytes.{get_or_byte, take-bytes, drop-bytes}
 use Rattle.sheet.specs.Sheet.{tab, interleave, block_of, joined, message_of}
@@ -95,6 +96,29 @@ pub message_byte : (k : ℕ) (payload : List ℕ) (d j : ℕ) → j < k → get_
 unfolding message_of
 message_byte k payload d j l = get_or-take k (drop (d * k) payload) j 0 l ∙ get_or-drop (d * k) payload j 0
 
+-- the chunks of k bytes of a payload of D × k are its messages: where w is the first of what is left from byte d k on, it is message d, and t is left after it
+module _ (D k d : ℕ) (payload w t : List ℕ) (e : length payload ≡ D * k) (q : drop (d * k) payload ≡ w ++ t) (l : length w ≡ k) where
+  pub chunk-message : w ≡ message_of k payload d
+  unfolding message_of
+  chunk-message = sym (ap (take k) q ∙ take_at w t k l)
+
+  pub chunk-rest : t ≡ drop ((d + 1) * k) payload
+  chunk-rest =
+      let n : (d + 1) * k ≡ d * k + k = rw (add-one, suc-mul) in
+      sym (ap (λ (m : ℕ). drop m payload) n ∙ sym (drop-drop k (d * k) payload) ∙ ap (drop k) q ∙ drop_at w t k l)
+
+  pub chunk-below : 0 < k → d < D
+  chunk-below z =
+      ⊎_elim (λ b. b)
+      (λ b. absurd (omega (arith, mul-le-mul_right k b, sym (length-drop (d * k) payload) ∙ ap length q ∙ length-append w t)))
+      (lt-or_ge d D)
+
+-- and none is left where fewer than k bytes are
+pub chunk-end : (D k d : ℕ) (payload : List ℕ) → length payload ≡ D * k → d ≤ D → length (drop (d * k) payload) < k → d ≡ D
+chunk-end D k d payload e m l =
+    ⊎_elim (λ b. absurd (omega (arith, at.part_inside D k d b, sym (length-drop (d * k) payload))))
+    (λ b. let z : d ≡ D = omega arith in z) (lt-or_ge d D)
+
 -- within D × k the quotient by k is below D
 module _ (D k q : ℕ) (l : q < D * k) where
   turned : q < k * D
@@ -160,9 +184,6 @@ module _ (k d : ℕ) (g : ℕ → List ℕ) (o s : List ℕ) (e : s ≡ joined d
   rows_end D q l = e ∙ rw (q, drop_of_length-le o (let z : length o ≤ D * k = omega arith in z)) (append-nil _)
 
 -- ---- a loop that lays the cells of a block at d, D + d, 2 D + d, ..
-
-pub laid-start : (D d : ℕ) (w s : List ℕ) → Laid D 0 d w s s
-laid-start D d w s = record { cells = λ i l. absurd (not-suc-le-zero l); others = λ i e l n. refl }
 
 -- two places are one only where quotients and remainders are
 module _ (D d e : ℕ) (h : d < D) (g : e < D) (i j : ℕ) (q : i * D + d ≡ j * D + e) where

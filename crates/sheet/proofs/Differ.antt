@@ -6,6 +6,8 @@ use mathlib.Core.List.{List, [], ◌∷◌}
 use Prim.Native.Nat.{ℕ}
 use lib.Dec.{eqb}
 use borrow.Author.Tests.{eq-eqb, ne_eqb, eqb-true}
+use Rattle.std.specs.Prelude.{not}
+use Rattle.std.specs.Int.{from_bool}
 use Rattle.lists.specs.Choice.{pick}
 use Rattle.lists.proofs.Test.{zero_or, true_or_false, true_false}
 use Rattle.sheet.specs.Sheet.{differ}
@@ -35,5 +37,5 @@ differ_iff c d = (
 )
 
 -- a number that is 0 exactly where the lists are the same tells whether they differ
-pub differ-number : (k : ℕ) (c d : List ℕ) → (k ≡ 0) ↔ (c ≡ d) → ◌≡◌ {A = ℕ} (pick (eqb k 0) 0 1) (pick (differ c d) 1 0)
+pub differ-number : (k : ℕ) (c d : List ℕ) → (k ≡ 0) ↔ (c ≡ d) → ◌≡◌ {A = ℕ} (from_bool (not (eqb k 0))) (pick (differ c d) 1 0)
 differ-number k c d h = ⊎_elim (λ z. rw (eq-eqb k 0 z, (differ_iff c d).1.1 (h.0 z))) (λ z. rw (ne_eqb k 0 z, differ-not c d (λ e. z (h.1 e)))) (zero_or k)

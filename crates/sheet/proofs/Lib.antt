@@ -3,7 +3,7 @@ pub mod Places
 pub mod Apart
 pub mod Differ
 pub mod Modes
-pub mod Reader
+pub mod SheetAnswer
 pub mod Theorems
 pub mod Looks
 pub mod Refusals

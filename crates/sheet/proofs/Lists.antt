@@ -6,7 +6,11 @@ use Prim.Native.Nat.{ℕ, zero, suc, ◌+◌, ◌-◌, ◌<◌, ◌≤◌}
 use native.Mathlib.Nat.{not-suc-le-zero, le_of_suc-le-suc, suc-add, zero-add}
 use native.Mathlib.Omega.{arith}
 use lib.ListN.{length, get_or, take, drop, replicate, length-drop}
-use lib.Seq.{ext_get_or, drop-drop, take_all, take-take, take_at, drop_at, length-take-le}
+use lib.Seq.{ext_get_or, drop-drop, take_all, take_at, drop_at, length-take-le}
+use mathlib.Core.Logic.{◌≢◌}
+use Rattle.std.specs.Prelude.{Some, slice_get, slice_set}
+use Rattle.std.proofs.lemmas.Option.{slice_get-get_or}
+use Rattle.std.proofs.lemmas.List.{get_or-set_same, length-set}
 use Rattle.sheet.specs.Sheet.{tab}
 
 pub length-tab : (n : ℕ) (f : ℕ → ℕ) → length (tab n f) ≡ n
@@ -40,16 +44,27 @@ part-more a k f o w l e h =
     rw (take_at (tab a f) (drop a o) a (length-tab a f), drop_at (tab a f) (drop a o) a (length-tab a f), drop-drop, tab-add, append_assoc)
     (ap (λ (t : List ℕ). tab a f ++ (t ++ drop (a + k) o)) (is_tab k (λ (j : ℕ). f (a + j)) w e h))
 
+-- ---- an element of a list that was written
+
+module _ {A : Type 0} where
+  pub get-set_same : (xs : List A) (i : ℕ) (v : A) → i < length xs → slice_get (slice_set xs i v) i ≡ Some v
+  get-set_same xs i v l = slice_get-get_or (slice_set xs i v) i v (simp length-set l) ∙ ap (λ (x : A). Some x) (get_or-set_same xs i v v l)
+
+  pub get-set_other : (xs : List A) (i j : ℕ) (v : A) → j ≢ i → slice_get (slice_set xs i v) j ≡ slice_get xs j
+  get-set_other [] i j v n = refl
+  get-set_other (x ∷ xs) zero zero v n = absurd (n refl)
+  get-set_other (x ∷ xs) zero (suc j) v n = refl
+  get-set_other (x ∷ xs) (suc i) zero v n = refl
+  get-set_other (x ∷ xs) (suc i) (suc j) v n = get-set_other xs i j v (λ e. n (ap suc e))
+
+  pub get-set_is : (xs : List A) (i : ℕ) (v y : A) → slice_get (slice_set xs i v) i ≡ Some y → y ≡ v
+  get-set_is [] i v y q = absurd (cc)
+  get-set_is (x ∷ xs) zero v y q = cc
+  get-set_is (x ∷ xs) (suc i) v y q = get-set_is xs i v y q
+
 -- all that follows cell a
 pub rest_of : (a : ℕ) (s : List ℕ) → take (length s - a) (drop a s) ≡ drop a s
 rest_of a s = take_all (length s - a) (drop a s) (rw length-drop (omega arith))
-
--- k cells from cell a on, of the first m that have them
-pub row_within : (a k m : ℕ) (s : List ℕ) → a + k ≤ m → take k (drop a s) ≡ take k (drop a (take m s))
-row_within zero k m s l = sym (take-take k m s (omega arith))
-row_within (suc a) k zero s l = absurd (omega arith)
-row_within (suc a) k (suc m) [] l = refl
-row_within (suc a) k (suc m) (x ∷ s) l = row_within a k m s (omega arith)
 
 -- 255 zeros, of which the first n are lent
 unfoldable pub zeros : List ℕ

@@ -2,20 +2,24 @@
 -- read sheet follows from `block_law`, and is proved for all modes at once.
 use mathlib.Core.Path.{◌≡◌, refl, sym, ap, subst, ◌∙◌}
 use mathlib.Core.Logic.{◌↔◌, ◌≢◌, ◌⊎◌, inl, inr, ⊎_elim}
+use mathlib.Core.Bool.{true, false}
 use mathlib.Core.List.{List}
+use Rattle.std.specs.Prelude.{Ok, Err}
+use Rattle.std.specs.Result.{is_ok}
 use Prim.Native.Nat.{ℕ, ◌+◌, ◌<◌, ◌≤◌}
 use native.Mathlib.Omega.{arith}
 use Rattle.code.specs.Code.{distance}
 use Rattle.code.proofs.Distance.{distance_self, distance-same}
 use Rattle.profile.specs.Profile.{InRange, half}
 use Rattle.block.specs.Block.{verdict, corrected, look_answer}
-use Rattle.block.specs.Numbers.{verdict_number, verdict_start, verdict_length, verdict_count, verdict_lowest}
+use Rattle.block.specs.Numbers.{Verdict, correct_refusal_number, verdict_number, verdict_start, verdict_length, verdict_count, verdict_lowest}
 use Rattle.block.specs.Runs.{Cells, Word, Reached, OneReached}
 use Rattle.spots.specs.Spots.{spot_verdict, spot_word}
 use Rattle.spots.specs.Nearest.{NearestWord}
 use Rattle.profile.specs.declared.Profile.{Profile}
-use Rattle.block.specs.declared.Verdict.{Verdict}
-use Rattle.block.specs.declared.Verdict.TheVariants.{Uncorrectable, Ambiguous, TooManyErrors, CorrectedCells, Sparse}
+use Rattle.block.specs.declared.numbers.Correction.TheVariants as corrections
+use Rattle.block.specs.declared.numbers.Refusal.{Refusal}
+use Rattle.block.specs.declared.numbers.Refusal.TheVariants.{BadProfile, WrongLength, Uncorrectable, Ambiguous, TooManyErrors, Sparse}
 use Rattle.sheet.specs.declared.Mode.{Mode}
 use Rattle.sheet.specs.declared.Mode.TheVariants.{Burst, Spots}
 use Rattle.block.proofs.Shortest.{empty_run, word_clean}
@@ -26,6 +30,32 @@ use Rattle.block.proofs.LookAndFill.{looks_then_fills}
 use Rattle.spots.proofs.Verdicts.{spot_none, spot_one, spot_near}
 use Rattle.spots.proofs.Answers.{spot_of, spot-late}
 use Rattle.sheet.specs.Modes.{verdict_in, word_in, GoesTo, BlockRefusedBy}
+
+-- ---- a verdict has a number exactly where it is a refusal
+
+refusal-some : (e : Refusal) → correct_refusal_number e ≢ 0
+refusal-some BadProfile = λ q. omega arith
+refusal-some WrongLength = λ q. omega arith
+refusal-some Uncorrectable = λ q. omega arith
+refusal-some Ambiguous = λ q. omega arith
+refusal-some TooManyErrors = λ q. omega arith
+refusal-some Sparse = λ q. omega arith
+
+pub ok_0 : (w : Verdict) → is_ok w ≡ true → verdict_number w ≡ 0
+ok_0 (Ok c) t = refl
+ok_0 (Err e) t = absurd (cc)
+
+pub number-ok : (w : Verdict) → verdict_number w ≡ 0 → is_ok w ≡ true
+number-ok (Ok c) q = refl
+number-ok (Err e) q = absurd (refusal-some e q)
+
+pub number-refused : (w : Verdict) → verdict_number w ≢ 0 → (e : Refusal) × (w ≡ Err e)
+number-refused (Ok c) n = absurd (n refl)
+number-refused (Err e) n = (e, refl)
+
+pub not_ok : (w : Verdict) → is_ok w ≡ false → verdict_number w ≢ 0
+not_ok (Ok c) t = absurd (cc)
+not_ok (Err e) t = refusal-some e
 
 -- the law on the modes
 module _ (mode : Mode) (p : Profile) (y : List ℕ) where
@@ -38,9 +68,9 @@ module _ (mode : Mode) (p : Profile) (y : List ℕ) where
 -- ---- burst mode
 
 module _ (p : Profile) (y : List ℕ) where
-  burst-refused : verdict_number (verdict p y) ≢ 0 → (verdict p y ≡ Uncorrectable) ⊎ ((verdict p y ≡ Ambiguous) ⊎ (verdict p y ≡ Sparse))
+  burst-refused : verdict_number (verdict p y) ≢ 0 → (verdict p y ≡ Err Uncorrectable) ⊎ ((verdict p y ≡ Err Ambiguous) ⊎ (verdict p y ≡ Err Sparse))
   burst-refused =
-      verdict_of (λ (w : Verdict). verdict_number w ≢ 0 → (w ≡ Uncorrectable) ⊎ ((w ≡ Ambiguous) ⊎ (w ≡ Sparse))) (λ n. inl refl) (λ n. inr (inl refl))
+      verdict_of (λ (w : Verdict). verdict_number w ≢ 0 → (w ≡ Err Uncorrectable) ⊎ ((w ≡ Err Ambiguous) ⊎ (w ≡ Err Sparse))) (λ n. inl refl) (λ n. inr (inl refl))
       (λ n. inr (inr refl)) (λ s f n. absurd (n refl)) p y
 
   module _ (v : InRange p) (h : Cells p y) where
@@ -90,12 +120,12 @@ module _ (p : Profile) (y : List ℕ) where
 -- ---- spot mode
 
 module _ (p : Profile) (y : List ℕ) where
-  spot_refused : verdict_number (spot_verdict p y) ≢ 0 → spot_verdict p y ≡ TooManyErrors
-  spot_refused = spot_of (λ (w : Verdict). verdict_number w ≢ 0 → w ≡ TooManyErrors) (λ n. refl) (λ t j n. absurd (n refl)) p y
+  spot_refused : verdict_number (spot_verdict p y) ≢ 0 → spot_verdict p y ≡ Err TooManyErrors
+  spot_refused = spot_of (λ (w : Verdict). verdict_number w ≢ 0 → w ≡ Err TooManyErrors) (λ n. refl) (λ t j n. absurd (n refl)) p y
 
-  spot_0 : verdict_number (spot_verdict p y) ≡ 0 → spot_verdict p y ≡ CorrectedCells (verdict_count (spot_verdict p y)) (verdict_lowest (spot_verdict p y))
+  spot_0 : verdict_number (spot_verdict p y) ≡ 0 → spot_verdict p y ≡ Ok (corrections.Cells (verdict_count (spot_verdict p y)) (verdict_lowest (spot_verdict p y)))
   spot_0 =
-      spot_of (λ (w : Verdict). verdict_number w ≡ 0 → w ≡ CorrectedCells (verdict_count w) (verdict_lowest w)) (λ e. absurd (omega arith)) (λ t j e. refl) p y
+      spot_of (λ (w : Verdict). verdict_number w ≡ 0 → w ≡ Ok (corrections.Cells (verdict_count w) (verdict_lowest w))) (λ e. absurd (omega arith)) (λ t j e. refl) p y
 
   module _ (v : InRange p) (h : Cells p y) where
     spot_changed : verdict_number (spot_verdict p y) ≡ 0 → (verdict_length (spot_verdict p y) + verdict_count (spot_verdict p y) ≡ 0) ↔ (spot_word p y ≡ y)

@@ -4,32 +4,32 @@ use mathlib.Core.Path.{◌≡◌, refl, sym, ap, ◌∙◌}
 use mathlib.Core.Logic.{◌≢◌, ◌⊎◌, inl, inr, ⊎_elim}
 use mathlib.Core.Bool.{Bool, true, false}
 use mathlib.Core.List.{List}
+use Rattle.std.specs.Prelude.{Ok, Err}
+use Rattle.std.specs.Result.{is_ok}
 use Prim.Native.Nat.{ℕ, ◌+◌, ◌*◌, ◌/◌, ◌%◌, ◌<◌}
 use native.Mathlib.Omega.{arith}
 use lib.ListN.{length, get_or, drop, replicate}
 use lib.Seq.{get_or-drop}
-use borrow.Author.Tests.{eq-eqb, ne_eqb, eqb-true}
 use Rattle.lists.specs.Choice.{pick}
-use Rattle.lists.proofs.Test.{true_false}
 use Rattle.lists.specs.Bytes.{Bytes}
 use Rattle.profile.specs.Profile.{InRange, message_length}
-use Rattle.block.specs.Numbers.{verdict_number, written_number}
+use Rattle.profile.specs.Numbers.{early_number}
+use Rattle.block.specs.Numbers.{verdict_number}
 use Rattle.block.specs.Runs.{Cells, Word}
 use Rattle.profile.specs.declared.Profile.{Profile}
 use Rattle.block.proofs.Encoding.{encode-codeword, encode_message}
 use Rattle.sheet.specs.declared.Mode.{Mode}
 use Rattle.sheet.specs.declared.Refusal.TheVariants.{Block}
-use Rattle.sheet.specs.declared.Reading.{Reading}
-use Rattle.sheet.specs.declared.Reading.TheVariants.{Refused, Accepted}
-use Rattle.sheet.specs.Sheet.{message_of, interleave, joined, written_block, written_sheet, write_sheet_leaves, read_block, block_verdict, codeword, is_corrected, is_accepted, differ, changed_at, sheet_answer, sheet_payload, read_answer, read_scratch, read_payload}
-use Rattle.sheet.specs.Numbers.{reading_number, reading_place, reading_changed}
+use Rattle.block.specs.declared.numbers.Refusal.{Refusal}
+use Rattle.sheet.specs.Sheet.{message_of, interleave, joined, written_block, written_sheet, write_sheet_leaves, read_block, block_verdict, codeword, differ, changed_at, sheet_answer, sheet_payload, read_answer, read_scratch, read_payload}
+use Rattle.sheet.specs.Numbers.{Reading, reading_number, reading_place, reading_changed}
 use Rattle.sheet.specs.Buffers.{Payload, Sheet, Lent, differing}
 use Rattle.sheet.specs.Theorems.{WrittenSheet, WritesSheet, HasWord, RefusedBy, LowestRefused, AllWords, Accepts, ReadResults}
 use Rattle.sheet.proofs.Apart.{block_length, block_bytes, message_length_lem, message_bytes, message_below, apart, interleave-length, interleave-bytes, same-joined, places}
 use Rattle.sheet.proofs.Lists.{get_or_tab}
-use Rattle.sheet.proofs.Modes.{BlockLaw, block_law}
+use Rattle.sheet.proofs.Modes.{ok_0, number-ok, number-refused, not_ok, BlockLaw, block_law}
 use Rattle.sheet.proofs.Entry.{write_rest, read-rest}
-use Rattle.sheet.proofs.Reader.{first_false, all_accepted, first-refused}
+use Rattle.sheet.proofs.SheetAnswer.{first_false, all_accepted, first-refused}
 use Rattle.lists.proofs.Sum.{same_sum}
 
 -- ---- the written sheet
@@ -72,7 +72,7 @@ module _ (p : Profile) (m : List ℕ) (v : InRange p) (h : Payload p m) where
 
     pub written-laid : WrittenSheet p m cells
     written-laid = record {
-      accepted = ap written_number (write_rest p m cells v h.count c).0;
+      accepted = ap early_number (write_rest p m cells v h.count c).0;
       count = ap length leaves_written ∙ written-sheet.count;
       blocks = written_block p m;
       laid = record {
@@ -94,7 +94,7 @@ block_cells p sheet d h = record { count = block_length p.depth p.n sheet d; byt
 
 module _ (mode : Mode) (p : Profile) (sheet : List ℕ) (v : InRange p) (h : Bytes sheet) where
   abbrev fine : ℕ → Bool
-  fine d = is_corrected (block_verdict mode p sheet d)
+  fine d = is_ok (block_verdict mode p sheet d)
 
   -- what the verdict on block d means
   law : (d : ℕ) → BlockLaw mode p (read_block p sheet d)
@@ -102,22 +102,22 @@ module _ (mode : Mode) (p : Profile) (sheet : List ℕ) (v : InRange p) (h : Byt
 
   word-fine : (d : ℕ) (c : List ℕ) → HasWord mode p sheet d c → (fine d ≡ true) × (codeword mode p sheet d ≡ c)
   unfolding block_verdict codeword
-  word-fine d c w = let q = ((law d).accepted c).1 w in (eq-eqb _ _ q.0, q.1)
+  word-fine d c w = let q = ((law d).accepted c).1 w in (number-ok _ q.0, q.1)
 
   fine-word : (d : ℕ) → fine d ≡ true → HasWord mode p sheet d (codeword mode p sheet d)
   unfolding block_verdict codeword
-  fine-word d t = ((law d).accepted (codeword mode p sheet d)).0 (eqb-true _ _ t, refl)
+  fine-word d t = ((law d).accepted (codeword mode p sheet d)).0 (ok_0 _ t, refl)
 
   refused-number : (d number : ℕ) → RefusedBy mode p sheet d number → (verdict_number (block_verdict mode p sheet d) ≡ number) × (number ≢ 0)
   unfolding block_verdict
   refused-number d number r = ((law d).refused number).1 r
 
-  refused-not-fine : (d number : ℕ) → RefusedBy mode p sheet d number → fine d ≡ false
-  refused-not-fine d number r = let q = refused-number d number r in ne_eqb _ _ (λ e. q.1 (sym q.0 ∙ e))
+  refused-is : (d number : ℕ) → RefusedBy mode p sheet d number → (e : Refusal) × (block_verdict mode p sheet d ≡ Err e)
+  refused-is d number r = let q = refused-number d number r in number-refused _ (λ e. q.1 (sym q.0 ∙ e))
 
   not-fine-refused : (d : ℕ) → fine d ≡ false → RefusedBy mode p sheet d (verdict_number (block_verdict mode p sheet d))
   unfolding block_verdict
-  not-fine-refused d t = ((law d).refused (verdict_number (block_verdict mode p sheet d))).0 (refl, λ e. true_false (eq-eqb _ _ e) t)
+  not-fine-refused d t = ((law d).refused (verdict_number (block_verdict mode p sheet d))).0 (refl, not_ok _ t)
 
   -- a block is refused, or each has a codeword
   pub one-or-all : ((d number : ℕ) × LowestRefused mode p sheet d number) ⊎ ((words : ℕ → List ℕ) × AllWords mode p sheet words)
@@ -132,18 +132,19 @@ module _ (mode : Mode) (p : Profile) (sheet : List ℕ) (v : InRange p) (h : Byt
   pub lowest_answer : (d number : ℕ) → LowestRefused mode p sheet d number → (reading_number (sheet_answer mode p sheet) ≡ number) × (reading_place (sheet_answer mode p sheet) ≡ d)
   lowest_answer d number o =
       let q = refused-number d number o.refused in
-      let a : sheet_answer mode p sheet ≡ Refused (Block d (block_verdict mode p sheet d)) = first-refused mode p sheet d o.below (λ e l. (word-fine e (o.before e l).0 (o.before e l).1).0) (refused-not-fine d number o.refused) in
-      (ap reading_number a ∙ q.0, ap reading_place a)
+      let r = refused-is d number o.refused in
+      let a : sheet_answer mode p sheet ≡ Err (Block d r.0) = first-refused mode p sheet d r.0 o.below (λ e l. (word-fine e (o.before e l).0 (o.before e l).1).0) r.1 in
+      (ap reading_number a ∙ ap verdict_number (sym r.1) ∙ q.0, ap reading_place a)
 
   module _ (words : ℕ → List ℕ) (a : AllWords mode p sheet words) where
     same-changed : (d : ℕ) → d < p.depth → ◌≡◌ {A = ℕ} (changed_at mode p sheet d) (pick (differ (words d) (read_block p sheet d)) 1 0)
     unfolding changed_at
     same-changed d l = rw (word-fine d (words d) (a d l)).1
 
-    pub words-answer : sheet_answer mode p sheet ≡ Accepted (differing p.depth words (read_block p sheet))
+    pub words-answer : sheet_answer mode p sheet ≡ Ok (differing p.depth words (read_block p sheet))
     words-answer =
         all_accepted mode p sheet (λ d l. (word-fine d (words d) (a d l)).0)
-        ∙ ap Accepted (same_sum p.depth (changed_at mode p sheet) (λ (d : ℕ). pick (differ (words d) (read_block p sheet d)) 1 0) same-changed)
+        ∙ ap (λ (n : ℕ). Ok n) (same_sum p.depth (changed_at mode p sheet) (λ (d : ℕ). pick (differ (words d) (read_block p sheet d)) 1 0) same-changed)
 
     pub words-payload : sheet_payload mode p sheet ≡ joined p.depth (message_length p) (λ (d : ℕ). drop p.r (words d))
     unfolding sheet_payload
@@ -157,7 +158,7 @@ module _ (mode : Mode) (p : Profile) (sheet scratch out : List ℕ) (v : InRange
   answer = read_answer mode p sheet scratch out
 
   rest : (answer ≡ sheet_answer mode p sheet) × (read_scratch mode p sheet scratch out ≡ replicate (length scratch) 0)
-      × (read_payload mode p sheet scratch out ≡ pick (is_accepted (sheet_answer mode p sheet)) (sheet_payload mode p sheet) out)
+      × (read_payload mode p sheet scratch out ≡ pick (is_ok (sheet_answer mode p sheet)) (sheet_payload mode p sheet) out)
   rest = read-rest mode p sheet scratch out v h.cells.count h.scratch_count h.out_count
 
   lowest : (d number : ℕ) → LowestRefused mode p sheet d number → (reading_number answer ≡ number) × (reading_place answer ≡ d)
@@ -166,10 +167,10 @@ module _ (mode : Mode) (p : Profile) (sheet scratch out : List ℕ) (v : InRange
       (ap reading_number rest.0 ∙ q.0, ap reading_place rest.0 ∙ q.1)
 
   -- the answer itself, and what it says by numbers
-  pub read-accepts : (words : ℕ → List ℕ) → AllWords mode p sheet words → (answer ≡ Accepted (differing p.depth words (read_block p sheet))) × Accepts mode p sheet scratch out words
+  pub read-accepts : (words : ℕ → List ℕ) → AllWords mode p sheet words → (answer ≡ Ok (differing p.depth words (read_block p sheet))) × Accepts mode p sheet scratch out words
   read-accepts words a =
       let q = words-answer mode p sheet v h.cells.bytes words a in
-      let e : answer ≡ Accepted (differing p.depth words (read_block p sheet)) = rest.0 ∙ q in (
+      let e : answer ≡ Ok (differing p.depth words (read_block p sheet)) = rest.0 ∙ q in (
         e,
         record {
           number = ap reading_number e;

@@ -4,9 +4,8 @@
 use Rattle.std.specs.Prelude.{◌≡◌, ◌↔◌, ◌≢◌, List, ℕ, ◌<◌, length, drop}
 use Rattle.profile.specs.Profile.{InRange, message_length}
 use Rattle.block.specs.Block.{look_answer, fill_leaves}
-use Rattle.block.specs.Numbers.{verdict_number, verdict_start, verdict_length}
+use Rattle.block.specs.Numbers.{Verdict, verdict_number, verdict_start, verdict_length}
 use Rattle.profile.specs.declared.Profile.{Profile}
-use Rattle.block.specs.declared.Verdict.{Verdict}
 use Rattle.sheet.specs.declared.Mode.TheVariants.{Burst}
 use Rattle.sheet.specs.Sheet.{joined, read_block, read_answer, read_payload}
 use Rattle.sheet.specs.Numbers.{reading_number, reading_place, reading_changed}

@@ -2,11 +2,11 @@
 -- within the shortest run (document 01, "Runs"), unless that is thin (document 02, Note 7), in spot mode to the codeword that differs in the fewest cells (document 02, Note 1).
 use Rattle.std.specs.Prelude.{◌≡◌, ◌⊎◌, List, ℕ}
 use Rattle.block.specs.Block.{verdict, corrected}
+use Rattle.block.specs.Numbers.{Verdict}
 use Rattle.block.specs.Runs.{NoneReached, TwoReached, OneAccepted, OneSparse}
 use Rattle.spots.specs.Spots.{spot_verdict, spot_word}
 use Rattle.spots.specs.Nearest.{NoneNear, NearestWord}
 use Rattle.profile.specs.declared.Profile.{Profile}
-use Rattle.block.specs.declared.Verdict.{Verdict}
 use Rattle.sheet.specs.declared.Mode.{Mode}
 use Rattle.sheet.specs.declared.Mode.TheVariants.{Burst, Spots}
 

@@ -1,21 +1,20 @@
 -- The sheet of document 01 (clauses S1 to S6, E1 to E5): how its blocks lie in it, what the writer and the reader answer, and what they
 -- leave in every lent buffer. Refusal 1 goes before 2, and 2 before the rest. Blocks are written by the block crate's definition, and
 -- read in a mode by those of Modes.antt.
-use Rattle.std.specs.Prelude.{Bool, true, false, List, [], ◌∷◌, ℕ, zero, suc, ◌+◌, ◌*◌, ◌/◌, ◌%◌, eqb, length, get_or, take, drop, replicate}
+use Rattle.std.specs.Prelude.{Bool, true, false, Result, Ok, Err, ⊤, List, [], ◌∷◌, ℕ, zero, suc, ◌+◌, ◌*◌, ◌/◌, ◌%◌, eqb, length, get_or, take, drop, replicate}
+use Rattle.std.specs.Result.{is_ok}
 use Rattle.lists.specs.Choice.{pick, both}
 use Rattle.profile.specs.Profile.{message_length}
 use Rattle.profile.specs.Refusals.{refusing}
 use Rattle.block.specs.Block.{encode}
-use Rattle.block.specs.Numbers.{verdict_number}
+use Rattle.block.specs.Numbers.{Verdict}
 use Rattle.profile.specs.declared.Profile.{Profile}
-use Rattle.block.specs.declared.Verdict.{Verdict}
-use Rattle.block.specs.declared.Written.{Written}
-use Rattle.block.specs.declared.Written.TheVariants as writes
+use Rattle.profile.specs.declared.refusals.Refusal.{Refusal as EarlyRefusal}
+use Rattle.profile.specs.declared.refusals.Refusal.TheVariants as early
 use Rattle.sheet.specs.declared.Mode.{Mode}
 use Rattle.sheet.specs.Modes.{verdict_in, word_in}
+use Rattle.sheet.specs.Numbers.{Reading}
 use Rattle.sheet.specs.declared.Refusal.TheVariants.{BadProfile, WrongLength, Block}
-use Rattle.sheet.specs.declared.Reading.{Reading}
-use Rattle.sheet.specs.declared.Reading.TheVariants.{Refused, Accepted}
 
 -- ---- where cells and bytes stand
 
@@ -53,8 +52,8 @@ written_sheet p payload = interleave p.depth p.n (written_block p payload)
 unfoldable pub write_sheet_fits : Profile → ℕ → ℕ → Bool
 write_sheet_fits p payload sheet = both (eqb payload (p.depth * message_length p)) (eqb sheet (p.depth * p.n))
 
-unfoldable pub write_sheet_answer : Profile → List ℕ → List ℕ → Written
-write_sheet_answer p payload sheet = refusing p (write_sheet_fits p (length payload) (length sheet)) writes.BadProfile writes.WrongLength writes.Done
+unfoldable pub write_sheet_answer : Profile → List ℕ → List ℕ → Result ⊤ EarlyRefusal
+write_sheet_answer p payload sheet = refusing p (write_sheet_fits p (length payload) (length sheet)) (Err early.BadProfile) (Err early.WrongLength) (Ok tt)
 
 unfoldable pub write_sheet_leaves : Profile → List ℕ → List ℕ → List ℕ
 write_sheet_leaves p payload sheet = refusing p (write_sheet_fits p (length payload) (length sheet)) sheet sheet (written_sheet p payload)
@@ -74,9 +73,10 @@ module _ (mode : Mode) (p : Profile) (sheet : List ℕ) where
   unfoldable pub codeword : ℕ → List ℕ
   codeword d = word_in mode p (read_block p sheet d)
 
--- a block has a codeword, or is refused
-abbrev pub is_corrected : Verdict → Bool
-is_corrected v = eqb (verdict_number v) 0
+-- the refusal of block d is the sheet's, with its number; where it has a codeword the rest answers
+abbrev pub unless_refused : Verdict → ℕ → Reading → Reading
+unless_refused (Ok correction) d rest = rest
+unless_refused (Err refusal) d rest = Err (Block d refusal)
 
 -- two lists are not the same
 unfoldable pub differ : List ℕ → List ℕ → Bool
@@ -93,9 +93,8 @@ module _ (mode : Mode) (p : Profile) (sheet : List ℕ) where
   -- what is answered where blocks below d have codewords, `changed` of them were changed, and `left` blocks are left: "If a block is
   -- refused, the sheet is refused with the lowest such block's number."
   unfoldable pub answer_from : ℕ → ℕ → ℕ → Reading
-  answer_from zero d changed = Accepted changed
-  answer_from (suc left) d changed =
-      pick (is_corrected (block_verdict mode p sheet d)) (answer_from left (suc d) (changed + changed_at d)) (Refused (Block d (block_verdict mode p sheet d)))
+  answer_from zero d changed = Ok changed
+  answer_from (suc left) d changed = unless_refused (block_verdict mode p sheet d) d (answer_from left (suc d) (changed + changed_at d))
 
   -- what is answered on D × n cells
   unfoldable pub sheet_answer : Reading
@@ -104,10 +103,6 @@ module _ (mode : Mode) (p : Profile) (sheet : List ℕ) where
   -- "the payload, which is the message bytes of the codewords of all its blocks"
   unfoldable pub sheet_payload : List ℕ
   sheet_payload = joined p.depth (message_length p) (λ (d : ℕ). drop p.r (codeword mode p sheet d))
-
-abbrev pub is_accepted : Reading → Bool
-is_accepted (Accepted changed) = true
-is_accepted (Refused refusal) = false
 
 -- a sheet of D × n bytes, "a scratch of n bytes instead of D × n" (document 02, Note 6), and a payload buffer of D × k
 unfoldable pub read_fits : Profile → ℕ → ℕ → ℕ → Bool
@@ -119,7 +114,7 @@ module _ (mode : Mode) (p : Profile) (sheet scratch payload : List ℕ) where
   fits = read_fits p (length sheet) (length scratch) (length payload)
 
   unfoldable pub read_answer : Reading
-  read_answer = refusing p fits (Refused BadProfile) (Refused WrongLength) (sheet_answer mode p sheet)
+  read_answer = refusing p fits (Err BadProfile) (Err WrongLength) (sheet_answer mode p sheet)
 
   -- "After every result but refusals 1 and 2 the scratch is all zero"
   unfoldable pub read_scratch : List ℕ
@@ -127,4 +122,4 @@ module _ (mode : Mode) (p : Profile) (sheet scratch payload : List ℕ) where
 
   -- no payload byte changes unless the sheet is accepted
   unfoldable pub read_payload : List ℕ
-  read_payload = refusing p fits payload payload (pick (is_accepted (sheet_answer mode p sheet)) (sheet_payload mode p sheet) payload)
+  read_payload = refusing p fits payload payload (pick (is_ok (sheet_answer mode p sheet)) (sheet_payload mode p sheet) payload)

@@ -2,7 +2,7 @@
 -- S6, E3 to E5; document 02, Note 1), in every mode. To which codeword a block goes in a mode is in Modes.antt. proofs/Theorems.antt proves each.
 use Rattle.std.specs.Prelude.{◌≡◌, ◌↔◌, ◌≢◌, ◌⊎◌, true, false, List, ℕ, ◌+◌, ◌*◌, ◌/◌, ◌%◌, ◌<◌, length, get_or, drop, replicate}
 use Rattle.profile.specs.Profile.{InRange, message_length}
-use Rattle.block.specs.Numbers.{written_number, written_place}
+use Rattle.profile.specs.Numbers.{early_number, early_place}
 use Rattle.block.specs.Runs.{Word}
 use Rattle.profile.specs.Refusals.{EarlyRefusals}
 use Rattle.profile.specs.declared.Profile.{Profile}
@@ -36,7 +36,7 @@ pub record LaidOut (p : Profile) (payload sheet : List ℕ) (blocks : ℕ → Li
 
 -- "A sheet has D × n cells."
 pub record WrittenSheet (p : Profile) (m cells : List ℕ) : Type 0 where
-  pub accepted : written_number (write_sheet_answer p m cells) ≡ 0
+  pub accepted : early_number (write_sheet_answer p m cells) ≡ 0
   pub count : length (write_sheet_leaves p m cells) ≡ p.depth * p.n
   pub blocks : ℕ → List ℕ
   pub laid : LaidOut p m (write_sheet_leaves p m cells) blocks
@@ -99,9 +99,9 @@ ReadResults = (mode : Mode) (p : Profile) (sheet scratch out : List ℕ) → InR
 
 -- the writer: the place is 0, and the lent sheet is unchanged
 pub record WriteSheetRefusals (p : Profile) (m cells : List ℕ) : Type 0 where
-  pub early : EarlyRefusals p ((length m ≡ p.depth * message_length p) × (length cells ≡ p.depth * p.n)) (written_number (write_sheet_answer p m cells))
-  pub place : written_place (write_sheet_answer p m cells) ≡ 0
-  pub kept : written_number (write_sheet_answer p m cells) ≢ 0 → write_sheet_leaves p m cells ≡ cells
+  pub early : EarlyRefusals p ((length m ≡ p.depth * message_length p) × (length cells ≡ p.depth * p.n)) (early_number (write_sheet_answer p m cells))
+  pub place : early_place (write_sheet_answer p m cells) ≡ 0
+  pub kept : early_number (write_sheet_answer p m cells) ≢ 0 → write_sheet_leaves p m cells ≡ cells
 
 -- the reader: refusals 1 and 2 have place 0 and leave the scratch; after every refusal the payload buffer is unchanged
 pub record ReadRefusals (mode : Mode) (p : Profile) (sheet scratch out : List ℕ) : Type 0 where

@@ -1,62 +1,39 @@
-// The documents' number, place and values of what reading a sheet answers. Each function is one match, and its contract is the definition of
-// specs/Numbers.antt.
+// The documents' number and place of a sheet's refusal; those of an answer follow by the trait `Numbered`. Each function is one match, and its contract is
+// the definition of specs/Numbers.antt.
 ghost use Rattle.std.specs.Prelude.{◌≡◌};
-ghost use Rattle.sheet.specs.Numbers.{refusal_number, refusal_place, reading_number, reading_place, reading_changed};
+ghost use Rattle.sheet.specs.Numbers.{read_early, refusal_number, refusal_place};
 
-use crate::{Reading, Refusal};
+use crate::Refusal;
+use answers::Numbered;
 
-impl Refusal {
-    /// The documents' number of a refusal.
-    pub fn number(self) -> usize
-        ensures { result ≡ refusal_number self }
-    {
-        match self {
-            Refusal::BadProfile => 1,
-            Refusal::WrongLength => 2,
-            Refusal::Block { number: _, verdict } => verdict.number(),
-        }
-    }
+impl From<profile::Refusal> for Refusal {
+    ghost from_gives = { λ early e. e ≡ read_early early };
 
-    /// Its place: the number of the block that is refused, and else 0.
-    pub fn place(self) -> usize
-        ensures { result ≡ refusal_place self }
-    {
-        match self {
-            Refusal::BadProfile => 0,
-            Refusal::WrongLength => 0,
-            Refusal::Block { number, verdict: _ } => number,
+    fn from(early: profile::Refusal) -> Refusal {
+        match early {
+            profile::Refusal::BadProfile => Refusal::BadProfile,
+            profile::Refusal::WrongLength => Refusal::WrongLength,
         }
     }
 }
 
-impl Reading {
-    /// The refusal's number, or 0 for an accepted sheet.
-    pub fn number(self) -> usize
-        ensures { result ≡ reading_number self }
-    {
+impl Numbered for Refusal {
+    ghost number_of = { refusal_number };
+
+    ghost place_of = { refusal_place };
+
+    fn number(&self) -> u8 {
         match self {
-            Reading::Refused(r) => r.number(),
-            Reading::Accepted { changed: _ } => 0,
+            Refusal::BadProfile => 1,
+            Refusal::WrongLength => 2,
+            Refusal::Block { number: _, refusal } => refusal.number(),
         }
     }
 
-    /// The refusal's place, or 0 for an accepted sheet.
-    pub fn place(self) -> usize
-        ensures { result ≡ reading_place self }
-    {
+    fn place(&self) -> usize {
         match self {
-            Reading::Refused(r) => r.place(),
-            Reading::Accepted { changed: _ } => 0,
-        }
-    }
-
-    /// The number of blocks changed, or 0 for a refused sheet.
-    pub fn changed(self) -> usize
-        ensures { result ≡ reading_changed self }
-    {
-        match self {
-            Reading::Refused(_) => 0,
-            Reading::Accepted { changed } => changed,
+            Refusal::BadProfile | Refusal::WrongLength => 0,
+            Refusal::Block { number, refusal: _ } => *number,
         }
     }
 }

@@ -1,17 +1,15 @@
 -- The cases of the corrector, over plain values: what `locate` and `fill_places` give is the verdict and the codeword. The syndromes of the remainder are
 -- those of the block, and the cells at the places located, filled, are the only candidate.
 use mathlib.Core.Path.{◌≡◌, refl, sym, ap, ap₂, ◌∙◌}
-use mathlib.Core.Logic.{◌≢◌}
 use mathlib.Core.Bool.{Bool, true}
-use mathlib.Core.List.{List, ◌++◌, map}
+use mathlib.Core.List.{List, map}
 use Prim.Native.Nat.{ℕ, ◌≤◌, min}
-use native.Mathlib.Nat.{min-eq_left, le_of_eq}
+use native.Mathlib.Nat.{min-eq_left}
 use native.Mathlib.Omega.{arith}
 use lib.Dec.{eqb}
-use lib.ListN.{length, get_or, take, drop, length-map}
+use lib.ListN.{length, get_or, take, length-map}
 use Rattle.lists.specs.Choice.{pick}
 use Rattle.lists.specs.Bytes.{Bytes}
-use Rattle.lists.proofs.Fill.{fill_all}
 use Rattle.field.specs.Field.{alpha}
 use Rattle.code.specs.Code.{generator, remainder}
 use Rattle.code.specs.Search.{extent}
@@ -25,10 +23,11 @@ use Rattle.erasure.proofs.Fill.{syndromes-length}
 use Rattle.erasure.proofs.Filling.{filled_by_points}
 use Rattle.locator.specs.Locator.{locations, is_located}
 use Rattle.locator.specs.Answer.{error_locations}
-use Rattle.locator.specs.declared.Located.{Located}
+use Rattle.locator.specs.declared.Errors.{Errors}
+use Rattle.std.specs.Prelude.{Some, None, Ok, Err}
 use Rattle.locator.proofs.Theorems.{located_test, candidate-filled}
 use Rattle.locator.proofs.Roots.{locations-places}
-use Rattle.locator.proofs.Answer.{Fields, located-fields}
+use Rattle.locator.proofs.Answer.{Fields, located-none, located-some}
 use Rattle.profile.specs.Profile.{InRange, half}
 use Rattle.block.specs.Block.{read_remainder}
 use Rattle.block.proofs.Answers.{block-remainder}
@@ -36,7 +35,8 @@ use Rattle.block.specs.Runs.{Cells, Word}
 use Rattle.block.proofs.Entries.{zero_clean}
 use Rattle.block.proofs.Shortest.{clean_word}
 use Rattle.profile.specs.declared.Profile.{Profile}
-use Rattle.block.specs.declared.Verdict.TheVariants.{TooManyErrors, CorrectedCells}
+use Rattle.block.specs.declared.numbers.Correction.TheVariants as corrections
+use Rattle.block.specs.declared.numbers.Refusal.TheVariants.{TooManyErrors}
 use Rattle.spots.specs.Spots.{spot_decided, read_syndromes, spot_verdict, spot_word}
 use Rattle.spots.specs.Steps.{SpotsInto}
 use Rattle.spots.proofs.Verdicts.{spot_clean}
@@ -83,33 +83,38 @@ module _ (p : Profile) (v : InRange p) (y : List ℕ) (l : length y ≡ p.n) (h 
   half-most : half p ≤ 32
   half-most = omega (arith, v.r_most)
 
-  module _ (L : Located) (k : ℕ) (S : List ℕ) (ek : k ≡ half p) (eS : S ≡ s) (eL : L ≡ error_locations S p.n k) where
-    fields : Fields s p.n (half p) L
-    fields = located-fields s p.n (half p) L short v.n_most half-most (eL ∙ ap₂ (λ (u : List ℕ) (j : ℕ). error_locations u p.n j) eS ek)
+  module _ (k : ℕ) (S : List ℕ) (ek : k ≡ half p) (eS : S ≡ s) where
+    located : error_locations S p.n k ≡ error_locations s p.n (half p)
+    located = ap₂ (λ (u : List ℕ) (j : ℕ). error_locations u p.n j) eS ek
 
-    pub located-none : L.near ≡ 0 → (out : List ℕ) → SpotsInto p y out TooManyErrors out
-    located-none e out = record {
-      answer = sym (unfold spot_verdict spot_decided in ap (λ (u : Bool). pick u (CorrectedCells (length E) (get_or E 0 0)) TooManyErrors) (fields.none e));
+    pub none-into : None ≡ error_locations S p.n k → (out : List ℕ) → SpotsInto p y out (Err TooManyErrors) out
+    none-into e out = record {
+      answer =
+          sym (unfold spot_verdict spot_decided in ap (λ (u : Bool). pick u (Ok (corrections.Cells (length E) (get_or E 0 0))) (Err TooManyErrors))
+          (located-none s p.n (half p) short v.n_most half-most (e ∙ located)));
       word = λ q. absurd (omega arith);
       kept = λ n. refl;
     }
 
-    module _ (n : L.near ≢ 0) where
+    module _ (L : Errors) (eL : Some L ≡ error_locations S p.n k) where
+      fields : Fields s p.n (half p) L
+      fields = located-some s p.n (half p) short v.n_most half-most L (eL ∙ located)
+
       small : length E ≤ 32
-      small = omega (arith, fewest (fields.some n), half-most)
+      small = omega (arith, fewest fields.fine, half-most)
 
       counted : L.count ≡ length E
-      counted = fields.count n
+      counted = fields.count
 
       pub located_fits : (L.count ≤ 32) × (length L.places ≡ 32) × (length L.points ≡ 32)
-      located_fits = (omega (arith, counted, small), ap length (fields.places n) ∙ pad_length 32 E, ap length (fields.points n) ∙ pad_length 32 (map alpha E))
+      located_fits = (omega (arith, counted, small), ap length fields.places ∙ pad_length 32 E, ap length fields.points ∙ pad_length 32 (map alpha E))
 
       placed : take L.count L.places ≡ E
-      placed = ap (take L.count) (fields.places n) ∙ pad_off L.count 32 E (sym counted) (omega (arith, counted, small))
+      placed = ap (take L.count) fields.places ∙ pad_off L.count 32 E (sym counted) (omega (arith, counted, small))
 
       pointed : take L.count L.points ≡ map alpha E
       pointed =
-          ap (take L.count) (fields.points n)
+          ap (take L.count) fields.points
           ∙ pad_off L.count 32 (map alpha E) (length-map E alpha ∙ sym counted) (omega (arith, counted, small))
 
       places : DistinctPlaces (length y) E
@@ -123,30 +128,28 @@ module _ (p : Profile) (v : InRange p) (y : List ℕ) (l : length y ≡ p.n) (h 
           ∙ ap₂ (λ (m : ℕ) (u : List ℕ). filled_word p.b p.r (locations 64 m u) y) (sym l) same-syndromes
           ∙ sym (candidate-filled p.b p.r 64 y)
 
-      pub located_some : (out copied o : List ℕ) (j : ℕ) → length out ≡ p.n → copied ≡ take (length y) y ++ drop (length y) out
-          → o ≡ filled_at p.b S (take L.count L.places) (take L.count L.points) copied → j ≡ get_or L.places 0 0
-          → SpotsInto p y out (CorrectedCells L.count j) o
-      located_some out copied o j lo ec eo ej =
-          let c : copied ≡ y = ec ∙ fill_all (length y) y out (le_of_eq refl) (omega arith) in
-          let first : j ≡ get_or E 0 0 = ej ∙ ap (λ (u : List ℕ). get_or u 0 0) (fields.places n) ∙ pad_at 32 E 0 (omega arith) in
+      pub some-into : (out copied o : List ℕ) (j : ℕ) → copied ≡ y → o ≡ filled_at p.b S (take L.count L.places) (take L.count L.points) copied → j ≡ get_or L.places 0 0
+          → SpotsInto p y out (Ok (corrections.Cells L.count j)) o
+      some-into out copied o j ec eo ej =
+          let first : j ≡ get_or E 0 0 = ej ∙ ap (λ (u : List ℕ). get_or u 0 0) fields.places ∙ pad_at 32 E 0 (omega arith) in
           record {
             answer =
-                ap₂ CorrectedCells counted first
-                ∙ sym (unfold spot_verdict spot_decided in ap (λ (u : Bool). pick u (CorrectedCells (length E) (get_or E 0 0)) TooManyErrors) (fields.some n));
-            word = λ _. eo ∙ rw (eS, placed, pointed, c) is_word;
+                ap₂ (λ (t j : ℕ). Ok (corrections.Cells t j)) counted first
+                ∙ sym (unfold spot_verdict spot_decided in ap (λ (u : Bool). pick u (Ok (corrections.Cells (length E) (get_or E 0 0))) (Err TooManyErrors)) fields.fine);
+            word = λ _. eo ∙ rw (eS, placed, pointed, ec) is_word;
             kept = λ m. absurd (m refl);
           }
 
   -- ---- a clean block
 
-  pub clean_into : (out Z copied : List ℕ) → length out ≡ p.n → Z ≡ read_remainder p y → true ≡ eqb (extent Z) 0
-      → copied ≡ take (length y) y ++ drop (length y) out → SpotsInto p y out (CorrectedCells 0 0) copied
-  clean_into out Z copied lo eZ t ec =
+  pub clean_into : (out Z copied : List ℕ) → Z ≡ read_remainder p y → true ≡ eqb (extent Z) 0 → copied ≡ y
+      → SpotsInto p y out (Ok (corrections.Cells 0 0)) copied
+  clean_into out Z copied eZ t ec =
       let c : Cells p y = record { count = l; bytes = h } in
       let w : Word p y = clean_word p y v c (sym (zero_clean p v y Z true (eZ ∙ block-remainder p v y l) t)) in
       let z = spot_clean p y v c w in
       record {
         answer = sym z.0;
-        word = λ _. ec ∙ fill_all (length y) y out (le_of_eq refl) (omega arith) ∙ sym z.1;
+        word = λ _. ec ∙ sym z.1;
         kept = λ m. absurd (m refl);
       }

@@ -3,6 +3,7 @@
 use mathlib.Core.Path.{◌≡◌, refl, sym, ap, ◌∙◌}
 use mathlib.Core.Logic.{◌↔◌, ◌≢◌, ◌⊎◌, inl, inr, ⊎_elim}
 use mathlib.Core.List.{List}
+use Rattle.std.specs.Prelude.{Ok, Err}
 use Prim.Native.Nat.{ℕ, ◌<◌}
 use native.Mathlib.Omega.{arith}
 use lib.ListN.{length}
@@ -10,16 +11,17 @@ use Rattle.code.specs.Code.{distance}
 use Rattle.locator.proofs.Theorems.{nearest_only}
 use Rattle.profile.specs.Profile.{InRange, half}
 use Rattle.profile.specs.Refusals.{EarlyRefusals}
+use Rattle.answers.proofs.Numbers.{no_place}
 use Rattle.profile.proofs.Refusing.{refusing_of, same-refusing, early_of}
 use Rattle.block.specs.Block.{correct_fits}
-use Rattle.block.specs.Numbers.{verdict_number, verdict_count, verdict_lowest}
+use Rattle.block.specs.Numbers.{Verdict, verdict_number, verdict_count, verdict_lowest}
 use Rattle.block.specs.Promises.{LentBlock}
 use Rattle.block.proofs.Entries.{same-fits}
 use Rattle.block.proofs.Promises.{two_lengths}
 use Rattle.block.proofs.NumberLaws.{case_of, no_values}
 use Rattle.profile.specs.declared.Profile.{Profile}
-use Rattle.block.specs.declared.Verdict.{Verdict}
-use Rattle.block.specs.declared.Verdict.TheVariants.{BadProfile, WrongLength, CorrectedCells}
+use Rattle.block.specs.declared.numbers.Correction.TheVariants.{Cells}
+use Rattle.block.specs.declared.numbers.Refusal.TheVariants.{BadProfile, WrongLength}
 use Rattle.spots.specs.Spots.{spot_verdict, spot_word, spot_answer, spot_leaves}
 use Rattle.spots.specs.Nearest.{Near, NoneNear, NearestWord}
 use Rattle.spots.specs.Promises.{CorrectsCells, CorrectedCellsIff, TooManyErrorsIff, NoTie, NearComesBack, LimitFree, SpotRefusals}
@@ -31,13 +33,13 @@ module _ (p : Profile) (y out : List ℕ) (v : InRange p) (h : LentBlock p y out
   is_verdict : spot_answer p y out ≡ spot_verdict p y
   is_verdict = spot-answer p v y h.cells.count out h.second
 
-  leaves_word : {t j : ℕ} → spot_verdict p y ≡ CorrectedCells t j → spot_leaves p y out ≡ spot_word p y
+  leaves_word : {t j : ℕ} → spot_verdict p y ≡ Ok (Cells t j) → spot_leaves p y out ≡ spot_word p y
   leaves_word q = spot-leaves p v y h.cells.count out h.second (ap verdict_number q)
 
   corrects : (t j : ℕ) (c : List ℕ) → NearestWord p y t j c → CorrectsCells p y out t j c
   corrects t j c o =
       let q = (spot_one p y v h.cells t j c).1 o in
-      let a : spot_answer p y out ≡ CorrectedCells t j = is_verdict ∙ q.0 in
+      let a : spot_answer p y out ≡ Ok (Cells t j) = is_verdict ∙ q.0 in
       record { accepted = ap verdict_number a; count = ap verdict_count a; lowest = ap verdict_lowest a; leaves = leaves_word q.0 ∙ q.1 }
 
   -- an accepted block has its codeword
@@ -85,7 +87,7 @@ module _ (p q : Profile) (y out : List ℕ) (v : InRange p) (w : InRange q) (en 
   same_answer : spot_answer p y out ≡ spot_answer q y out
   unfolding spot_answer
   same_answer =
-      same-refusing p q (correct_fits p y out) (correct_fits q y out) BadProfile WrongLength (spot_verdict p y) (spot_verdict q y) v w (same-fits p q y out en) (same-verdict p q y en er eb)
+      same-refusing p q (correct_fits p y out) (correct_fits q y out) (Err BadProfile) (Err WrongLength) (spot_verdict p y) (spot_verdict q y) v w (same-fits p q y out en) (same-verdict p q y en er eb)
 
   same_leaves : spot_leaves p y out ≡ spot_leaves q y out
   unfolding spot_leaves
@@ -103,26 +105,26 @@ module _ (p : Profile) (y out : List ℕ) where
   numbered : Numbered (spot_answer p y out)
   unfolding spot_answer
   numbered =
-      refusing_of p (correct_fits p y out) BadProfile WrongLength (spot_verdict p y) Numbered (λ n. inl refl) (λ n. inr (inl refl))
+      refusing_of p (correct_fits p y out) (Err BadProfile) (Err WrongLength) (spot_verdict p y) Numbered (λ n. inl refl) (λ n. inr (inl refl))
       (spot_of Numbered (λ n. inr (inr refl)) (λ t j n. absurd (n refl)) p y)
 
   of_spots : case_of (spot_answer p y out) ≢ 1
   unfolding spot_answer
   of_spots =
-      refusing_of p (correct_fits p y out) BadProfile WrongLength (spot_verdict p y) (λ (w : Verdict). case_of w ≢ 1) (λ q. omega arith) (λ q. omega arith)
+      refusing_of p (correct_fits p y out) (Err BadProfile) (Err WrongLength) (spot_verdict p y) (λ (w : Verdict). case_of w ≢ 1) (λ q. omega arith) (λ q. omega arith)
       (spot_of (λ (w : Verdict). case_of w ≢ 1) (λ q. omega arith) (λ t j q. omega arith) p y)
 
   early : EarlyRefusals p ((length y ≡ p.n) × (length out ≡ p.n)) (verdict_number (spot_answer p y out))
   unfolding spot_answer correct_fits
   early =
-      early_of p (correct_fits p y out) _ (two_lengths (length y) (length out) p.n p.n) verdict_number BadProfile WrongLength (spot_verdict p y) refl refl
+      early_of p (correct_fits p y out) _ (two_lengths (length y) (length out) p.n p.n) verdict_number (Err BadProfile) (Err WrongLength) (spot_verdict p y) refl refl
       (spot-late p y).0 (spot-late p y).1
 
   pub spot_refusals : SpotRefusals p y out
   spot_refusals = record {
     early = early;
     numbers = numbered;
-    place = refl;
+    place = no_place (spot_answer p y out);
     kept = spot-kept p y out;
     cells = λ n. let z = no_values (spot_answer p y out) n in (z.count, z.lowest);
     no_run = λ s f q. of_spots (ap case_of q);

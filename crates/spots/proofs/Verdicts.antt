@@ -4,6 +4,7 @@ use mathlib.Core.Path.{◌≡◌, refl, sym, ap, ap₂, subst, ◌∙◌}
 use mathlib.Core.Logic.{◌↔◌, ◌≢◌, ◌⊎◌, inl, inr, ⊎_elim}
 use mathlib.Core.Bool.{Bool, true, false}
 use mathlib.Core.List.{List, [], ◌∷◌}
+use Rattle.std.specs.Prelude.{Ok, Err}
 use Prim.Native.Nat.{ℕ, ◌+◌, ◌≤◌, ◌<◌, zero-le}
 use native.Mathlib.Nat.{pos_of_ne-zero}
 use native.Mathlib.Omega.{arith}
@@ -21,15 +22,20 @@ use Rattle.locator.proofs.Roots.{locations-places}
 use Rattle.profile.specs.Profile.{InRange, half}
 use Rattle.block.specs.Runs.{Cells, Word}
 use Rattle.profile.specs.declared.Profile.{Profile}
-use Rattle.block.specs.declared.Verdict.{Verdict}
-use Rattle.block.specs.declared.Verdict.TheVariants.{TooManyErrors, CorrectedCells}
+use Rattle.block.specs.Numbers.{Verdict, verdict_count, verdict_lowest}
+use Rattle.block.specs.declared.numbers.Correction.TheVariants as corrections
+use Rattle.block.specs.declared.numbers.Refusal.TheVariants.{TooManyErrors}
 use Rattle.spots.specs.Spots.{spot_decided, read_syndromes, spot_verdict, spot_word}
 use Rattle.spots.specs.Nearest.{Near, NoneNear, LowestChanged, NearestWord}
 use Rattle.spots.proofs.Words.{same_or_not, lowest_one}
 
+-- the verdict on a block that goes to a codeword
+abbrev corrected : ℕ → ℕ → Verdict
+corrected t j = Ok (corrections.Cells t j)
+
 -- two verdicts that differ
-too_many_corrected : {t j : ℕ} → ◌≡◌ {A = Verdict} TooManyErrors (CorrectedCells t j) → ⊥
-too_many_corrected q = let z : ◌≡◌ {A = ℕ} 0 1 = cc in omega arith
+too_many_corrected : {t j : ℕ} → ◌≡◌ {A = Verdict} (Err TooManyErrors) (corrected t j) → ⊥
+too_many_corrected q = cc
 
 module _ (p : Profile) (y : List ℕ) (v : InRange p) (h : Cells p y) where
   abbrev s : List ℕ
@@ -56,10 +62,10 @@ module _ (p : Profile) (y : List ℕ) (v : InRange p) (h : Cells p y) where
   abbrev fine : Bool
   fine = is_located 64 (half p) p.n s
 
-  verdict-fine : fine ≡ true → spot_verdict p y ≡ CorrectedCells (length E) (get_or E 0 0)
+  verdict-fine : fine ≡ true → spot_verdict p y ≡ corrected (length E) (get_or E 0 0)
   verdict-fine t = by_syndromes ∙ (unfold spot_decided in rw t)
 
-  verdict_bad : fine ≡ false → spot_verdict p y ≡ TooManyErrors
+  verdict_bad : fine ≡ false → spot_verdict p y ≡ Err TooManyErrors
   verdict_bad t = by_syndromes ∙ (unfold spot_decided in rw t)
 
   exact : (c : List ℕ) → Near p y c ↔ (AllLocated 64 (half p) p.n s × (c ≡ spot_word p y))
@@ -130,37 +136,37 @@ module _ (p : Profile) (y : List ℕ) (v : InRange p) (h : Cells p y) where
   pub spot_near : (c : List ℕ) → Near p y c → (t j : ℕ) × NearestWord p y t j c
   spot_near c k = (length E, get_or E 0 0, nearest c k)
 
-  pub spot_none : (spot_verdict p y ≡ TooManyErrors) ↔ NoneNear p y
+  pub spot_none : (spot_verdict p y ≡ Err TooManyErrors) ↔ NoneNear p y
   spot_none = (
     λ q c k. too_many_corrected (sym q ∙ verdict-fine (near-fine c k).0),
     λ n. verdict_bad (⊎_elim (λ t. absurd (n (spot_word p y) (fine-near t))) (λ t. t) (true_or_false fine)),
   )
 
-  pub spot_one : (t j : ℕ) (c : List ℕ) → ((spot_verdict p y ≡ CorrectedCells t j) × (spot_word p y ≡ c)) ↔ NearestWord p y t j c
+  pub spot_one : (t j : ℕ) (c : List ℕ) → ((spot_verdict p y ≡ corrected t j) × (spot_word p y ≡ c)) ↔ NearestWord p y t j c
   spot_one t j c = (there, back)
     where
-      there : (spot_verdict p y ≡ CorrectedCells t j) × (spot_word p y ≡ c) → NearestWord p y t j c
+      there : (spot_verdict p y ≡ corrected t j) × (spot_word p y ≡ c) → NearestWord p y t j c
       there z =
           ⊎_elim
-          (λ f. let e : CorrectedCells (length E) (get_or E 0 0) ≡ CorrectedCells t j = sym (verdict-fine f) ∙ z.0 in
-          let a : length E ≡ t = cc in
-          let b : get_or E 0 0 ≡ j = cc in
+          (λ f. let e : corrected (length E) (get_or E 0 0) ≡ corrected t j = sym (verdict-fine f) ∙ z.0 in
+          let a : length E ≡ t = ap verdict_count e in
+          let b : get_or E 0 0 ≡ j = ap verdict_lowest e in
           subst (NearestWord p y t j) z.1 (subst (λ (x : ℕ). NearestWord p y x j (spot_word p y)) a (subst (λ (x : ℕ). NearestWord p y (length E) x (spot_word p y)) b (nearest (spot_word p y) (fine-near f)))))
           (λ f. absurd (too_many_corrected (sym (verdict_bad f) ∙ z.0))) (true_or_false fine)
 
-      back : NearestWord p y t j c → (spot_verdict p y ≡ CorrectedCells t j) × (spot_word p y ≡ c)
+      back : NearestWord p y t j c → (spot_verdict p y ≡ corrected t j) × (spot_word p y ≡ c)
       back o =
           let k : Near p y c = is_near t j c o in
           let f = near-fine c k in
           let m = nearest c k in
-          (verdict-fine f.0 ∙ ap₂ CorrectedCells (sym m.count ∙ o.count) (lowest_one p y c (get_or E 0 0) j (same_length c k) m.lowest o.lowest), f.1)
+          (verdict-fine f.0 ∙ ap₂ corrected (sym m.count ∙ o.count) (lowest_one p y c (get_or E 0 0) j (same_length c k) m.lowest o.lowest), f.1)
 
   pub spot_some : NoneNear p y ⊎ ((t j : ℕ) × (c : List ℕ) × NearestWord p y t j c)
   spot_some =
       ⊎_elim (λ f. inr (length E, get_or E 0 0, spot_word p y, nearest (spot_word p y) (fine-near f))) (λ f. inl (spot_none.0 (verdict_bad f))) (true_or_false fine)
 
   -- a clean block goes to itself
-  pub spot_clean : Word p y → (spot_verdict p y ≡ CorrectedCells 0 0) × (spot_word p y ≡ y)
+  pub spot_clean : Word p y → (spot_verdict p y ≡ corrected 0 0) × (spot_word p y ≡ y)
   spot_clean w =
       (spot_one 0 0 y).1
       (record {

@@ -1,13 +1,13 @@
 -- The promises on one block in spot mode, of what the entry answers and leaves in its second buffer, through the numbers of documents 01 and 02 (N1a to N1d).
 -- They name no locator and no syndrome: which codewords are near is Nearest.antt, the numbers are the block crate's, and the contract of `correct` says
 -- that it answers and leaves `spot_answer` and `spot_leaves`. proofs/Promises.antt proves each.
-use Rattle.std.specs.Prelude.{◌≡◌, ◌↔◌, ◌≢◌, ◌⊎◌, List, ℕ, length}
+use Rattle.std.specs.Prelude.{◌≡◌, ◌↔◌, ◌≢◌, ◌⊎◌, Ok, List, ℕ, length}
 use Rattle.profile.specs.Profile.{InRange}
 use Rattle.profile.specs.Refusals.{EarlyRefusals}
 use Rattle.block.specs.Numbers.{verdict_number, verdict_place, verdict_count, verdict_lowest}
 use Rattle.block.specs.Promises.{LentBlock}
 use Rattle.profile.specs.declared.Profile.{Profile}
-use Rattle.block.specs.declared.Verdict.TheVariants.{Corrected}
+use Rattle.block.specs.declared.numbers.Correction.TheVariants.{Run}
 use Rattle.spots.specs.Spots.{spot_answer, spot_leaves}
 use Rattle.spots.specs.Nearest.{Near, NoneNear, NearestWord}
 
@@ -50,4 +50,4 @@ pub record SpotRefusals (p : Profile) (y out : List ℕ) : Type 0 where
   pub kept : verdict_number (spot_answer p y out) ≢ 0 → spot_leaves p y out ≡ out
   pub cells : verdict_number (spot_answer p y out) ≢ 0 → (verdict_count (spot_answer p y out) ≡ 0) × (verdict_lowest (spot_answer p y out) ≡ 0)
   -- never burst mode's case
-  pub no_run : (s f : ℕ) → spot_answer p y out ≢ Corrected s f
+  pub no_run : (s f : ℕ) → spot_answer p y out ≢ Ok (Run s f)

@@ -1,8 +1,7 @@
 -- What the private steps of the corrector leave. No promise rests on these words: they join its functions.
 use Rattle.std.specs.Prelude.{◌≡◌, ◌≢◌, List, ℕ}
-use Rattle.block.specs.Numbers.{verdict_number}
+use Rattle.block.specs.Numbers.{Verdict, verdict_number}
 use Rattle.profile.specs.declared.Profile.{Profile}
-use Rattle.block.specs.declared.Verdict.{Verdict}
 use Rattle.spots.specs.Spots.{spot_verdict, spot_word}
 
 -- the cells y answer a, and the second buffer, which held out, holds o: the codeword, or what it held

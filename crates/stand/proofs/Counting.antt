@@ -1,61 +1,90 @@
--- A table as the loops fill it: a line of a payload's record, a record of an accepted payload, and the plots after it. What is left to count is the same from
--- turn to turn.
-use Prim.Native.Nat.{ℕ, suc, zero-le, ◌+◌, ◌*◌, ◌-◌, ◌<◌, ◌≤◌}
+-- A table as the loops fill it: a line of a record, a record of an accepted payload, and the plots after it. What is left to count is the same from turn to turn.
+use Prim.Native.Nat.{ℕ, suc, zero-le, ◌+◌, ◌*◌, ◌-◌, ◌/◌, ◌<◌, ◌≤◌}
 use native.Mathlib.Omega.{arith}
-use mathlib.Core.Path.{◌≡◌, ap, subst, ◌∙◌}
-use mathlib.Core.Bool.{true}
-use mathlib.Core.List.{List, [], ◌∷◌}
-use lib.ListN.{length, drop, length-append}
-use lib.Seq.{drop-drop}
-use Rattle.plot.specs.Layout.{Plot, no_line, line_of, lines_hold, record_of, bytes_of, tallies}
+use mathlib.Core.Path.{◌≡◌, refl, sym, ap, subst, ◌∙◌}
+use mathlib.Core.List.{List, [], ◌∷◌, ◌++◌}
+use Rattle.std.specs.Prelude.{Some, Ok}
+use lib.ListN.{length, take, drop, length-append}
+use lib.Seq.{drop_at}
+use Rattle.plot.specs.Layout.{Plot, no_line, line_of, record_of, bytes_of, tallies}
 use Rattle.plot.specs.Grammar.{step_at, Parsed, Plots, read_from, reading}
-use Rattle.plot.specs.declared.Line.{Line}
-use Rattle.plot.specs.declared.Cursor.{Cursor}
-use Rattle.plot.specs.declared.Step.TheVariants.{Record}
-use Rattle.plot.proofs.Cases.{bounds, past_header}
+use Rattle.plot.specs.declared.Record.{Record}
+use Rattle.plot.proofs.Lines.{all_held}
+use Rattle.plot.proofs.Cases.{bounds, past_header, check_here}
 use Rattle.plot.proofs.Records.{Holding}
-use Rattle.plot.proofs.Tallies.{tallies_done, tallies-next, tallies-here}
 use Rattle.plot.proofs.Entries.{reading-reads, reading-lies, go}
 use Rattle.plot_promises.specs.Lines.{line_at, InRanges}
-use Rattle.plot_promises.proofs.Lines.{lines_hold_iff}
+use Rattle.plot_promises.proofs.Lines.{lines_hold_iff, line_after}
 use Rattle.stand.specs.Table.{plus_line, plus_lines, plus_plots, plots_in}
 
--- k lines of which i are passed
-module _ (rows : List ℕ) (k i : ℕ) (s : List ℕ) (from : ℕ) (t : List (List ℕ)) where
-  pub count_done : k ≤ i → plus_lines rows (tallies (k - i) (drop (from + i * 3) s)) t ≡ t
-  unfolding plus_lines
-  count_done h = rw (tallies_done k i s from h)
+-- a line is read from its own bytes
+first-is : (bytes rest : List ℕ) → length bytes ≡ 3 → line_of (bytes ++ rest) ≡ line_of bytes
+first-is [] rest h = absurd (let z : 0 ≡ 3 = h in omega arith)
+first-is (x ∷ []) rest h = absurd (let z : 1 ≡ 3 = h in omega arith)
+first-is (x ∷ y ∷ []) rest h = absurd (let z : 2 ≡ 3 = h in omega arith)
+first-is (x ∷ y ∷ z ∷ bytes) rest h = refl
 
-  pub count_next : i < k → (line : Line) → line ≡ line_of (drop (from + i * 3) s)
-      → plus_lines rows (tallies (k - i) (drop (from + i * 3) s)) t ≡ plus_lines rows (tallies (k - (i + 1)) (drop (from + (i + 1) * 3) s)) (plus_line rows line t)
-  unfolding plus_lines
-  count_next h line e = rw (tallies-next k i s from h, ← e)
+-- the bytes of a line and those of the lines after it
+module _ (bytes rest : List ℕ) where
+  lines-more : length bytes ≡ 3 → length (bytes ++ rest) / 3 ≡ suc (length rest / 3)
+  lines-more h = omega (arith, length-append bytes rest)
 
--- line i of the lines that begin at `from`
-pub line_from : (s : List ℕ) (from i : ℕ) → line_at (drop from s) i ≡ line_of (drop (from + i * 3) s)
-line_from s from i = ap line_of (drop-drop (i * 3) from s)
+  rest-is : length bytes ≡ 3 → drop 3 (bytes ++ rest) ≡ rest
+  rest-is h = drop_at bytes rest 3 h
 
--- the lines of a record whose checks all hold are in their ranges
-pub record_ranges : (s : List ℕ) (at last from count : ℕ) (next : Cursor) → Holding at last (drop at s) from count next → (i : ℕ) → i < count → InRanges (line_at (drop from s) i)
-record_ranges s at last from count next h =
-    let l : lines_hold no_line count (drop from s) ≡ true =
-    subst (λ (d : List ℕ). lines_hold no_line count d ≡ true) (past_header at from s (bounds s at last 0 from count next h.stands).lines_at) h.lines in
-    ((lines_hold_iff count (drop from s)).0 l).ranges
+  pub count_first : length bytes ≡ 3 → (rows : List ℕ) (t : List (List ℕ))
+      → plus_lines rows (tallies (length (bytes ++ rest) / 3) (bytes ++ rest)) t ≡ plus_lines rows (tallies (length rest / 3) rest) (plus_line rows (line_of bytes) t)
+  unfolding plus_lines tallies
+  count_first h rows t = rw (lines-more h, first-is bytes rest h, rest-is h)
+
+  pub first_in : length bytes ≡ 3 → ((i : ℕ) → i < length (bytes ++ rest) / 3 → InRanges (line_at (bytes ++ rest) i)) → InRanges (line_of bytes)
+  first_in h r = subst InRanges (first-is bytes rest h) (r 0 (omega (arith, lines-more h)))
+
+  pub rest_in : length bytes ≡ 3 → ((i : ℕ) → i < length (bytes ++ rest) / 3 → InRanges (line_at (bytes ++ rest) i)) → (i : ℕ) → i < length rest / 3 → InRanges (line_at rest i)
+  rest_in h r i l =
+      subst InRanges (sym (line_after (bytes ++ rest) i) ∙ ap (λ (s : List ℕ). line_at s i) (rest-is h)) (r (suc i) (omega (arith, lines-more h)))
+
+pub count_none : (rows rest : List ℕ) (t : List (List ℕ)) → length rest < 3 → plus_lines rows (tallies (length rest / 3) rest) t ≡ t
+unfolding plus_lines tallies
+count_none rows rest t h =
+    let z : length rest / 3 ≡ 0 = omega arith in
+    rw z
+
+-- the lines of a record of the payload s, as a part of it
+abbrev pub lines_of_record : List ℕ → Record → List ℕ
+lines_of_record s rec = take (rec.next.at - rec.lines) (drop rec.lines s)
+
+-- those of a record whose checks all hold are in their ranges
+pub record_ranges : (s : List ℕ) (at last : ℕ) (rec : Record) → Holding at last (drop at s) rec → (i : ℕ) → i < length (lines_of_record s rec) / 3
+    → InRanges (line_at (lines_of_record s rec) i)
+record_ranges s at last rec h =
+    let l = lines_of_record s rec in
+    let held = all_held no_line (length l / 3) l (sym (check_here s at last 0 rec h.stands) ∙ h.lines) in
+    ((lines_hold_iff (length l / 3) l).0 held).ranges
 
 -- a record of an accepted payload, and the plots after it
-module _ (s : List ℕ) (at last f from count : ℕ) (next : Cursor) (e : step_at at (drop at s) ≡ Record from count next) (h : length s ≤ at + f)
+module _ (s : List ℕ) (at last f : ℕ) (rec : Record) (e : step_at at (drop at s) ≡ Ok (Some rec)) (h : length s ≤ at + f)
     (ps : List Plot) (end : ℕ) (q : read_from f at last (drop at s) ≡ Plots ps end) where
   abbrev rest : List Plot
-  rest = (go s at last f from count next e h ps end q).rest
+  rest = (go s at last f rec e h ps end q).rest
 
-  pub record_next : (rows : List ℕ) (t : List (List ℕ)) → plus_plots rows ps t ≡ plus_plots rows rest (plus_lines rows (tallies count (drop from s)) t)
+  lines-same : take (rec.count * 3) (drop 5 (drop at s)) ≡ lines_of_record s rec
+  lines-same =
+      let b = bounds s at last f rec e in
+      let from : at + 5 ≡ rec.lines = b.lines_at in
+      let past : at + (5 + rec.count * 3) ≡ rec.next.at = b.past in
+      let z : rec.count * 3 ≡ rec.next.at - rec.lines = omega arith in
+      rw (past_header at rec.lines s from, z)
+
+  pub record_next : (rows : List ℕ) (t : List (List ℕ))
+      → plus_plots rows ps t ≡ plus_plots rows rest (plus_lines rows (tallies (length (lines_of_record s rec) / 3) (lines_of_record s rec)) t)
   unfolding plus_plots
   record_next rows t =
-      ap (λ (qs : List Plot). plus_plots rows qs t) (go s at last f from count next e h ps end q).is
-      ∙ ap (λ (ls : List Line). plus_plots rows rest (plus_lines rows ls t)) (tallies-here s at last from count next e)
+      ap (λ (qs : List Plot). plus_plots rows qs t) (go s at last f rec e h ps end q).is
+      ∙ ap (λ (l : List ℕ). plus_plots rows rest (plus_lines rows (tallies (length l / 3) l) t)) lines-same
 
   pub record_one : length ps ≡ suc (length rest)
-  record_one = ap length (go s at last f from count next e h ps end q).is
+  record_one = ap length (go s at last f rec e h ps end q).is
 
 pub no_record : (rows : List ℕ) (ps : List Plot) (t : List (List ℕ)) → ps ≡ [] → plus_plots rows ps t ≡ t
 unfolding plus_plots

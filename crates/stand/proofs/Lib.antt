@@ -1,5 +1,6 @@
-pub mod Lists
+mod Lists
 pub mod Rows
+pub mod Sums
 pub mod Cells
 pub mod Counting
 pub mod Limits

@@ -6,14 +6,14 @@ use native.Mathlib.Nat.{zero-add, add-zero, not-suc-le-zero, le_of_suc-le-suc}
 use mathlib.Core.Path.{◌≡◌, refl, sym, ap, subst, ◌∙◌}
 use mathlib.Core.Logic.{⊎_elim}
 use mathlib.Core.Bool.{Bool, true, false}
-use mathlib.Core.List.{List, [], ◌∷◌, ◌++◌}
+use mathlib.Core.List.{List, [], ◌∷◌}
 use lib.ListN.{length, get_or, set, take, drop, replicate, get_or-replicate, drop_of_length-le, get_or-eq_default}
-use lib.Seq.{drop-cons, take_all, get_or-take, length-take-le, get_or-set_same, get_or-set_other, ext_get_or}
+use lib.Seq.{drop-cons, get_or-take, length-take-le, get_or-set_same, get_or-set_other, ext_get_or}
 use lib.Dec.{eqb}
 use borrow.Author.Tests.{eqb-true, eqb-false}
 use Rattle.lists.specs.Choice.{pick}
 use Rattle.lists.proofs.Test.{lt-or_ge}
-use Rattle.stand.specs.Table.{places_of, row_from, row_of, tabulate_from, rows_of}
+use Rattle.stand.specs.Table.{row_from, row_of, tabulate_from, rows_of}
 use Rattle.stand.specs.Bounds.{RowsFit}
 
 -- f i, f (i + 1), ..
@@ -90,17 +90,3 @@ rows_end l rows long is =
     (λ x h.
     let k : x < 256 = omega arith in
     is x k ∙ sym (get_or_tabulate 256 0 x (row_of l) k ∙ ap (row_of l) (zero-add x)))
-
--- a list in its places, as the loop leaves them: where the list ends first, and where the places do
-pub places-short : (l : List ℕ) (i : ℕ) → i ≤ 16 → i ≤ length l → length l ≤ i → take i l ++ drop i (replicate 16 0) ≡ places_of l
-places-short l i h k m =
-    let e : i ≡ length l = omega arith in
-    let w : length l ≤ 16 = omega arith in
-    rw (e, take_all (length l) l (omega arith), take_all 16 l w)
-
-pub places_full : (l : List ℕ) (i : ℕ) → i ≤ 16 → i ≤ length l → 16 ≤ i → take i l ++ drop i (replicate 16 0) ≡ places_of l
-places_full l i h k m =
-    let e : i ≡ 16 = omega arith in
-    let w : 16 ≤ length l = omega arith in
-    let n : length {A = ℕ} (replicate 16 0) ≤ length l = w in
-    rw (e, drop_of_length-le {A = ℕ} (replicate 16 0) n)

@@ -1,15 +1,11 @@
 -- Each answer on a stand table as the number, the place and the values of the documents (N4f), case by case. An accepted answer has the number 0, and a value that
 -- an answer does not have is 0.
-use Rattle.std.specs.Prelude.{ℕ}
+use Rattle.std.specs.Prelude.{ℕ, Result}
+use Rattle.answers.specs.Numbers.{or_zero, value_or_zero}
 use Rattle.plot.specs.Numbers.{number_of, place_of, figure_of, index_of}
 use Rattle.stand.specs.declared.TableRefusal.{TableRefusal}
 use Rattle.stand.specs.declared.TableRefusal.TheVariants.{SpeciesList, TractFull, NoPlots, Payload}
-use Rattle.stand.specs.declared.Answer.{Answer}
-use Rattle.stand.specs.declared.Answer.TheVariants.{Accepted, Refused}
-use Rattle.stand.specs.declared.TreeTotal.{TreeTotal}
-use Rattle.stand.specs.declared.TreeTotal.TheVariants as total-as
 use Rattle.stand.specs.declared.PerPlot.{PerPlot}
-use Rattle.stand.specs.declared.PerPlot.TheVariants as per-plot-as
 
 -- "13 species list", "14 tract full", "15 no plots", or the payload's own
 abbrev pub refused_number : TableRefusal → ℕ
@@ -38,40 +34,31 @@ refused_index NoPlots = 0
 refused_index (Payload r) = index_of r
 
 -- beginning and adding
-abbrev pub answer_number : Answer → ℕ
-answer_number Accepted = 0
-answer_number (Refused r) = refused_number r
+abbrev pub answer_number : {A : Type 0} → Result A TableRefusal → ℕ
+answer_number r = or_zero refused_number r
 
-abbrev pub answer_place : Answer → ℕ
-answer_place Accepted = 0
-answer_place (Refused r) = refused_place r
+abbrev pub answer_place : {A : Type 0} → Result A TableRefusal → ℕ
+answer_place r = or_zero refused_place r
 
-abbrev pub answer_figure : Answer → ℕ
-answer_figure Accepted = 0
-answer_figure (Refused r) = refused_figure r
+abbrev pub answer_figure : {A : Type 0} → Result A TableRefusal → ℕ
+answer_figure r = or_zero refused_figure r
 
-abbrev pub answer_index : Answer → ℕ
-answer_index Accepted = 0
-answer_index (Refused r) = refused_index r
+abbrev pub answer_index : {A : Type 0} → Result A TableRefusal → ℕ
+answer_index r = or_zero refused_index r
 
 -- the total
-abbrev pub total_number : TreeTotal → ℕ
-total_number (total-as.Trees trees) = 0
-total_number (total-as.Refused r) = refused_number r
+abbrev pub total_number : Result ℕ TableRefusal → ℕ
+total_number = or_zero refused_number
 
-abbrev pub total_trees : TreeTotal → ℕ
-total_trees (total-as.Trees trees) = trees
-total_trees (total-as.Refused r) = 0
+abbrev pub total_trees : Result ℕ TableRefusal → ℕ
+total_trees = value_or_zero (λ trees. trees)
 
 -- trees per plot
-abbrev pub per_plot_number : PerPlot → ℕ
-per_plot_number (per-plot-as.Trees quotient remainder) = 0
-per_plot_number (per-plot-as.Refused r) = refused_number r
+abbrev pub per_plot_number : Result PerPlot TableRefusal → ℕ
+per_plot_number = or_zero refused_number
 
-abbrev pub per_plot_quotient : PerPlot → ℕ
-per_plot_quotient (per-plot-as.Trees quotient remainder) = quotient
-per_plot_quotient (per-plot-as.Refused r) = 0
+abbrev pub per_plot_quotient : Result PerPlot TableRefusal → ℕ
+per_plot_quotient = value_or_zero (λ p. p.quotient)
 
-abbrev pub per_plot_remainder : PerPlot → ℕ
-per_plot_remainder (per-plot-as.Trees quotient remainder) = remainder
-per_plot_remainder (per-plot-as.Refused r) = 0
+abbrev pub per_plot_remainder : Result PerPlot TableRefusal → ℕ
+per_plot_remainder = value_or_zero (λ p. p.remainder)

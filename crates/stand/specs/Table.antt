@@ -1,6 +1,7 @@
 -- The stand table of document 02's Note 4 (N4a, N4c): rows by species, columns by diameter class, and the trees of tally lines added to it. A table is a list of
 -- rows, a row a list of counts; a tract has the species list and two counters beside it.
-use Rattle.std.specs.Prelude.{ℕ, zero, suc, ◌+◌, ◌-◌, ◌/◌, Bool, true, false, List, [], ◌∷◌, ◌++◌, length, get_or, set, take, drop, replicate, ltb, eqb}
+use Rattle.std.specs.Prelude.{ℕ, zero, suc, ◌+◌, ◌-◌, ◌/◌, Bool, true, false, ◌&&◌, List, [], ◌∷◌, ◌++◌, length, get_or, set, take, drop, replicate, ltb, leb, eqb, sum, sum_by}
+use Rattle.std.specs.List.{list_all, list_any}
 use Rattle.lists.specs.Choice.{pick}
 use Rattle.plot.specs.Layout.{Plot, within, tallies_of}
 use Rattle.plot.specs.Grammar.{Parsed, Plots, Stopped}
@@ -17,9 +18,9 @@ list_of tract = take tract.listed tract.species
 abbrev pub places_of : List ℕ → List ℕ
 places_of l = take 16 l ++ drop (length l) (replicate 16 0)
 
-unfoldable pub among : ℕ → List ℕ → Bool
-among x [] = false
-among x (y ∷ l) = pick (eqb y x) true (among x l)
+-- whether x is one of l
+abbrev pub among : ℕ → List ℕ → Bool
+among x l = list_any (λ y. eqb y x) l
 
 -- no "listed number outside 1 to 99", no "repeat"
 unfoldable pub numbers_hold : List ℕ → Bool
@@ -95,23 +96,19 @@ plots_in (Stopped r) = []
 abbrev pub most : ℕ
 most = 400000000
 
-unfoldable pub row_holds : List ℕ → Bool
-row_holds [] = true
-row_holds (x ∷ row) = pick (ltb most x) false (row_holds row)
+abbrev pub row_holds : List ℕ → Bool
+row_holds row = list_all (λ cell. leb cell most) row
 
-unfoldable pub cells_hold : List (List ℕ) → Bool
-cells_hold [] = true
-cells_hold (row ∷ t) = pick (row_holds row) (cells_hold t) false
+abbrev pub cells_hold : List (List ℕ) → Bool
+cells_hold t = list_all row_holds t
 
 -- none is
-unfoldable pub limits_hold : List (List ℕ) → Tract → Bool
-limits_hold t tract = pick (ltb most tract.payloads) false (pick (ltb most tract.records) false (cells_hold t))
+abbrev pub limits_hold : List (List ℕ) → Tract → Bool
+limits_hold t tract = leb tract.payloads most && leb tract.records most && cells_hold t
 
 -- "the total, the sum of the cells"
-unfoldable pub row_total : List ℕ → ℕ
-row_total [] = 0
-row_total (x ∷ row) = x + row_total row
+abbrev pub row_total : List ℕ → ℕ
+row_total row = sum row
 
-unfoldable pub table_total : List (List ℕ) → ℕ
-table_total [] = 0
-table_total (row ∷ t) = row_total row + table_total t
+abbrev pub table_total : List (List ℕ) → ℕ
+table_total t = sum_by row_total t

@@ -2,16 +2,19 @@
 -- begun empty stays under the limit. And how much all cells within the limit are together, which 64 bits hold.
 use mathlib.Core.Path.{◌≡◌}
 use mathlib.Core.List.{List, [], ◌∷◌}
-use Prim.Native.Nat.{ℕ, suc, ◌+◌, ◌*◌, ◌<◌, ◌≤◌}
+use Prim.Native.Nat.{ℕ, ◌+◌, ◌*◌, ◌<◌, ◌≤◌}
 use native.Mathlib.Omega.{arith}
 use lib.ListN.{length, get_or, length-append}
+use Rattle.std.proofs.lemmas.List.Sums.{sum_by-le}
+use Rattle.std.proofs.lemmas.List.Elements.{All-from_get_or}
 use Rattle.plot.specs.Layout.{Plot, lines_of, record_of, bytes_of, tallies_of}
 use Rattle.plot.specs.Grammar.{Plots, reading}
 use Rattle.plot.proofs.Entries.{reading-reads}
 use Rattle.plot_promises.specs.Canonical.{Rising}
 use Rattle.plot_promises.proofs.Sound.{reading-sound}
-use Rattle.stand.specs.Table.{cell_of, plus_lines, plus_plots, most, row_total, table_total}
+use Rattle.stand.specs.Table.{plus_lines, plus_plots, most, row_total, table_total}
 use Rattle.stand.specs.Bounds.{AtMost}
+use Rattle.stand.proofs.Sums.{row_total-le}
 use Rattle.stand.proofs.Cells.{at-most_up, lines-most}
 
 plots-most : (rows : List ℕ) (ps : List Plot) (last : ℕ) → Rising last ps → (m : ℕ) (t : List (List ℕ)) → AtMost m t → AtMost (m + length (bytes_of ps) * 85) (plus_plots rows ps t)
@@ -31,18 +34,7 @@ payload-most rows s ps end q m t a =
     let k : length (bytes_of ps) ≤ length s = (reading-sound s ps end q).fits in
     at-most_up (m + length (bytes_of ps) * 85) (m + 344080) (plus_plots rows ps t) (omega arith) (plots-most rows ps 0 (reading-sound s ps end q).rising m t a)
 
--- all cells of a row, and of a table with rows of twenty
-row-most : (row : List ℕ) → ((j : ℕ) → get_or row j 0 ≤ most) → row_total row ≤ length row * most
-unfolding row_total
-row-most [] h = omega arith
-row-most (x ∷ row) h =
-    let a : x ≤ most = h 0 in
-    omega (arith, a, row-most row (λ j. h (suc j)))
-
+-- all cells of a table with rows of twenty
 pub total-most : (t : List (List ℕ)) → ((i : ℕ) → i < length t → length (get_or t i []) ≡ 20) → AtMost most t → table_total t ≤ length t * (20 * most)
-unfolding table_total
-total-most [] s a = omega arith
-total-most (row ∷ t) s a =
-    let n : length row ≡ 20 = s 0 (omega arith) in
-    let r : row_total row ≤ 20 * most = rw n at (row-most row (a 0)) in
-    omega (arith, r, total-most t (λ i h. s (suc i) (omega arith)) (λ i. a (suc i)))
+total-most t s a =
+    sum_by-le row_total (20 * most) t (All-from_get_or (λ (row : List ℕ). row_total row ≤ 20 * most) t [] (λ i h. rw (s i h) at (row_total-le most (get_or t i []) (a i))))

@@ -4,6 +4,7 @@ use mathlib.Core.Path.{◌≡◌, refl, sym, ap, subst, ◌∙◌}
 use mathlib.Core.Logic.{◌⊎◌, ◌↔◌, ◌≢◌, inl, inr, ⊎_elim}
 use mathlib.Core.Bool.{Bool, true, false}
 use mathlib.Core.List.{List, [], ◌∷◌, ◌++◌}
+use Rattle.std.specs.Prelude.{Result, Ok, Err}
 use Prim.Native.Nat.{ℕ, ◌+◌, ◌*◌, ◌/◌, ◌%◌, ◌<◌, ◌≤◌}
 use native.Mathlib.Omega.{arith}
 use native.Mathlib.Nat.{div-add-mod', mod-lt}
@@ -24,13 +25,8 @@ use Rattle.plot_promises.proofs.Sound.{reading-sound}
 use Rattle.stand.specs.declared.Tract.{Tract}
 use Rattle.stand.specs.declared.TableRefusal.{TableRefusal}
 use Rattle.stand.specs.declared.TableRefusal.TheVariants.{SpeciesList, TractFull, NoPlots, Payload}
-use Rattle.stand.specs.declared.Answer.{Answer}
-use Rattle.stand.specs.declared.Answer.TheVariants.{Accepted, Refused}
-use Rattle.stand.specs.declared.TreeTotal.{TreeTotal}
-use Rattle.stand.specs.declared.TreeTotal.TheVariants as total-as
-use Rattle.stand.specs.declared.PerPlot.TheVariants as per-plot-as
 use Rattle.stand.specs.Table.{list_of, places_of, species_hold, tract_listed, rows_of, cell_of, plus_plots, plots_in, most, limits_hold, table_total}
-use Rattle.stand.specs.Answers.{tract_of, begun_answer, payload_answer, judged, add_answer, tract_after, add_table, add_tract, total_answer, per_plot_answer}
+use Rattle.stand.specs.Answers.{Answer, tract_of, begun_answer, payload_answer, judged, add_answer, tract_after, add_table, add_tract, total_answer, per_plot_answer}
 use Rattle.stand.specs.Numbers.{refused_number, answer_number, answer_place, answer_figure, answer_index, total_number, total_trees, per_plot_number, per_plot_quotient, per_plot_remainder}
 use Rattle.stand.proofs.Limits.{limits_iff}
 use Rattle.stand.proofs.Counting.{read-plots, records_few}
@@ -63,10 +59,10 @@ beginning_exactly l = by_test (species_hold l) refl
 
     by_test : (t : Bool) → species_hold l ≡ t → BeginningExactly l
     by_test true e =
-        answers Accepted (sym (begun_accepted l e)) (refl, refl, refl) ((λ z. (species_iff l).0 e), λ n. refl)
+        answers (Ok tt) (sym (begun_accepted l e)) (refl, refl, refl) ((λ z. (species_iff l).0 e), λ n. refl)
         ((λ z. absurd (let y : ◌≡◌ {A = ℕ} 0 13 = z in omega arith)), λ d. absurd (d ((species_iff l).0 e)))
     by_test false e =
-        answers (Refused SpeciesList) (sym (begun-refused l e)) (refl, refl, refl)
+        answers (Err SpeciesList) (sym (begun-refused l e)) (refl, refl, refl)
         ((λ z. absurd (let y : ◌≡◌ {A = ℕ} 13 0 = z in omega arith)), λ n. absurd (true_false ((species_iff l).1 n) e))
         ((λ z n. true_false ((species_iff l).1 n) e), λ d. refl)
 
@@ -87,13 +83,13 @@ refused_some TractFull e = omega arith
 refused_some NoPlots e = omega arith
 refused_some (Payload r) e = number_some r e
 
-accepted_of_lem : (a : Answer) → answer_number a ≡ 0 → a ≡ Accepted
-accepted_of_lem Accepted e = refl
-accepted_of_lem (Refused r) e = absurd (refused_some r e)
+accepted_of_lem : (a : Answer) → answer_number a ≡ 0 → a ≡ Ok tt
+accepted_of_lem (Ok u) e = refl
+accepted_of_lem (Err r) e = absurd (refused_some r e)
 
-refused_of : (a : Answer) → answer_number a ≢ 0 → (r : TableRefusal) × (a ≡ Refused r)
-refused_of Accepted e = absurd (e refl)
-refused_of (Refused r) e = (r, refl)
+refused_of : (a : Answer) → answer_number a ≢ 0 → (r : TableRefusal) × (a ≡ Err r)
+refused_of (Ok u) e = absurd (e refl)
+refused_of (Err r) e = (r, refl)
 
 -- an answer's four numbers
 abbrev Tells : Answer → ℕ → ℕ → ℕ → ℕ → Type 0
@@ -111,10 +107,10 @@ own_answer (Stopped r) = (refl, refl, refl, refl)
 module _ (t : List (List ℕ)) (tract : Tract) (s : List ℕ) where
   abbrev tests : List (Tested ByNumber)
   tests =
-      unless_less ByNumber 2 (Refused (Payload WrongLength)) (refl, refl, refl, refl) longest (length s)
-      ∷ unless_true ByNumber 13 (Refused SpeciesList) (refl, refl, refl, refl) (tract_listed tract) (TractListed tract) (tract_iff tract)
-      ∷ unless_most ByNumber 14 (Refused TractFull) (refl, refl, refl, refl) 1000 tract.payloads
-      ∷ unless_true ByNumber 14 (Refused TractFull) (refl, refl, refl, refl) (limits_hold t tract) (Limits t tract) (limits_are t tract)
+      unless_less ByNumber 2 (Err (Payload WrongLength)) (refl, refl, refl, refl) longest (length s)
+      ∷ unless_true ByNumber 13 (Err SpeciesList) (refl, refl, refl, refl) (tract_listed tract) (TractListed tract) (tract_iff tract)
+      ∷ unless_most ByNumber 14 (Err TractFull) (refl, refl, refl, refl) 1000 tract.payloads
+      ∷ unless_true ByNumber 14 (Err TractFull) (refl, refl, refl, refl) (limits_hold t tract) (Limits t tract) (limits_are t tract)
       ∷ []
 
   abbrev answer : Answer
@@ -162,7 +158,7 @@ module _ (t : List (List ℕ)) (tract : Tract) (s : List ℕ) where
 
   -- an accepted payload
   module _ (z : answer_number answer ≡ 0) where
-    is : answer ≡ Accepted
+    is : answer ≡ Ok tt
     is = accepted_of_lem answer z
 
     taken : Added t tract s
@@ -215,8 +211,8 @@ module _ (t : List (List ℕ)) (tract : Tract) (s : List ℕ) where
 
   list_kept : (a : Answer) (q : Parsed) → ((tract_after a q tract).species ≡ tract.species) × ((tract_after a q tract).listed ≡ tract.listed)
   unfolding tract_after
-  list_kept Accepted q = (refl, refl)
-  list_kept (Refused r) q = (refl, refl)
+  list_kept (Ok u) q = (refl, refl)
+  list_kept (Err r) q = (refl, refl)
 
   pub adding_payload : AddingPayload t tract s
   adding_payload = record {
@@ -251,26 +247,26 @@ module _ (checks : List Check) (n : ℕ) where
       ))
 
 module _ (t : List (List ℕ)) (tract : Tract) where
-  abbrev TotalBy : TreeTotal → ℕ → Type 0
-  TotalBy a k = (r : TableRefusal) × (a ≡ total-as.Refused r) × (refused_number r ≡ k)
+  abbrev TotalBy : Result ℕ TableRefusal → ℕ → Type 0
+  TotalBy a k = (r : TableRefusal) × (a ≡ Err r) × (refused_number r ≡ k)
 
   abbrev total_tests : List (Tested TotalBy)
   total_tests =
-      unless_true TotalBy 13 (total-as.Refused SpeciesList) (SpeciesList, refl, refl) (tract_listed tract) (TractListed tract) (tract_iff tract)
-      ∷ unless_true TotalBy 14 (total-as.Refused TractFull) (TractFull, refl, refl) (limits_hold t tract) (Limits t tract) (limits_are t tract)
+      unless_true TotalBy 13 (Err SpeciesList) (SpeciesList, refl, refl) (tract_listed tract) (TractListed tract) (tract_iff tract)
+      ∷ unless_true TotalBy 14 (Err TractFull) (TractFull, refl, refl) (limits_hold t tract) (Limits t tract) (limits_are t tract)
       ∷ []
 
-  abbrev sum : TreeTotal
+  abbrev sum : Result ℕ TableRefusal
   sum = total_answer t tract
 
-  total_is : ((k : ℕ) × FirstFails (state_checks t tract) k × TotalBy sum k) ⊎ (NoneFails (state_checks t tract) × (sum ≡ total-as.Trees (table_total t)))
+  total_is : ((k : ℕ) × FirstFails (state_checks t tract) k × TotalBy sum k) ⊎ (NoneFails (state_checks t tract) × (sum ≡ Ok (table_total t)))
   unfolding total_answer
-  total_is = chosen TotalBy total_tests (total-as.Trees (table_total t))
+  total_is = chosen TotalBy total_tests (Ok (table_total t))
 
   total_some : (k : ℕ) → FirstFails (state_checks t tract) k → k ≢ 0
   total_some k = first_of (λ (j : ℕ). j ≢ 0) (state_checks t tract) k ((λ e. omega arith), ((λ e. omega arith), tt))
 
-  trees_of : (a : TreeTotal) → a ≡ total-as.Trees (table_total t) ⊎ ((r : TableRefusal) × (a ≡ total-as.Refused r)) → (total_number a ≡ 0 → total_trees a ≡ table_total t) × (total_number a ≢ 0 → total_trees a ≡ 0)
+  trees_of : (a : Result ℕ TableRefusal) → a ≡ Ok (table_total t) ⊎ ((r : TableRefusal) × (a ≡ Err r)) → (total_number a ≡ 0 → total_trees a ≡ table_total t) × (total_number a ≢ 0 → total_trees a ≡ 0)
   trees_of a (inl e) = ((λ z. ap total_trees e), λ d. absurd (d (ap total_number e)))
   trees_of a (inr f) = ((λ z. absurd (refused_some f.0 (sym (ap total_number f.1) ∙ z))), λ d. ap total_trees f.1)
 
@@ -294,8 +290,8 @@ module _ (t : List (List ℕ)) (tract : Tract) where
   last = (15 unless (tract.records ≢ 0)) ∷ []
 
   pub data PerPlotIs : Type 0 where
-    none : (k : ℕ) → FirstFails (per_plot_checks t tract) k → (r : TableRefusal) → per_plot_answer t tract ≡ per-plot-as.Refused r → refused_number r ≡ k → PerPlotIs
-    some : NoneFails (per_plot_checks t tract) → per_plot_answer t tract ≡ per-plot-as.Trees (table_total t / tract.records) (table_total t % tract.records) → PerPlotIs
+    none : (k : ℕ) → FirstFails (per_plot_checks t tract) k → (r : TableRefusal) → per_plot_answer t tract ≡ Err r → refused_number r ≡ k → PerPlotIs
+    some : NoneFails (per_plot_checks t tract) → per_plot_answer t tract ≡ Ok (record { quotient = table_total t / tract.records; remainder = table_total t % tract.records }) → PerPlotIs
 
   per_plot_is : PerPlotIs
   per_plot_is =

@@ -22,7 +22,7 @@ use Rattle.plot_promises.proofs.Canonical.{reading-contains}
 use Rattle.plot_promises.proofs.Checks.{not-both, first-after, all_after}
 use Rattle.plot_promises.proofs.Checking.{plots_of}
 use Rattle.stand.specs.declared.Tract.{Tract}
-use Rattle.stand.specs.Table.{list_of, empty_table, cell_of, row_total, table_total}
+use Rattle.stand.specs.Table.{list_of, empty_table, cell_of, table_total}
 use Rattle.stand.specs.Answers.{total_answer, per_plot_answer}
 use Rattle.stand.specs.Numbers.{total_number, total_trees, per_plot_number, per_plot_quotient, per_plot_remainder}
 use Rattle.stand_promises.specs.Species.{Listed, TractListed}
@@ -211,7 +211,6 @@ from_all l (s ∷ ss) b st r =
 -- ---- from a table begun empty
 
 empty_total : table_total empty_table ≡ 0
-unfolding table_total row_total
 empty_total = refl
 
 module _ (l : List ℕ) (n : Listed l) (ss : List (List ℕ)) (b : AllBytes ss) where

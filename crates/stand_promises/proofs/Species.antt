@@ -10,6 +10,8 @@ use native.Mathlib.Nat.{not-suc-le-zero, le_of_suc-le-suc, div-add-mod', mod-lt,
 use lib.ListN.{length, get_or, length-take}
 use lib.Dec.{ltb, eqb, lit<}
 use borrow.Author.Tests.{eq-eqb, ne_eqb, eqb-true, eqb-false, le-ltb, ltb-false}
+use Rattle.std.proofs.lemmas.List.Folds.{list_any_at, list_any_none}
+use Rattle.std.proofs.lemmas.List.Elements.{All-from_get_or}
 use Rattle.lists.specs.Choice.{pick}
 use Rattle.lists.proofs.Test.{true_false}
 use Rattle.plot.specs.Layout.{within}
@@ -21,15 +23,10 @@ use Rattle.stand_promises.specs.Species.{Listed, TractListed, RowsIff, ColumnsIf
 
 -- a number that is not among others
 among-not : (x : ℕ) (l : List ℕ) → among x l ≡ false → (i : ℕ) → i < length l → get_or l i 0 ≢ x
-unfolding among
-among-not x [] h i k e = absurd (not-suc-le-zero k)
-among-not x (y ∷ l) h zero k e = eqb-false y x (pick_out (eqb y x) true (among x l) false h (λ z. true_false refl z)).0 e
-among-not x (y ∷ l) h (suc i) k e = among-not x l (pick_out (eqb y x) true (among x l) false h (λ z. true_false refl z)).1 i (le_of_suc-le-suc k) e
+among-not x l h i k e = true_false (list_any_at (λ y. eqb y x) l i 0 k (eq-eqb (get_or l i 0) x e)) h
 
 not-among : (x : ℕ) (l : List ℕ) → ((i : ℕ) → i < length l → get_or l i 0 ≢ x) → among x l ≡ false
-unfolding among
-not-among x [] h = refl
-not-among x (y ∷ l) h = rw (ne_eqb y x (h 0 (suc-le-suc zero-le))) (not-among x l (λ i k. h (suc i) (suc-le-suc k)))
+not-among x l h = list_any_none (λ y. eqb y x) l (All-from_get_or (λ y. eqb y x ≡ false) l 0 (λ i k. ne_eqb (get_or l i 0) x (h i k)))
 
 -- each in its range, no two alike
 record Numbers (l : List ℕ) : Type 0 where

@@ -10,6 +10,7 @@ use lib.ListN.{length, get_or, set, drop, length-set}
 use lib.Seq.{get_or-set_same, get_or-set_other}
 use lib.Dec.{eqb}
 use borrow.Author.Tests.{eqb-true, eqb-false}
+use Rattle.std.proofs.lemmas.List.Sums.{sum_by-set}
 use Rattle.lists.specs.Choice.{pick, both}
 use Rattle.plot.specs.Layout.{Plot, no_line, lines_of, tallies, tallies_of}
 use Rattle.plot.specs.declared.Line.{Line}
@@ -54,16 +55,10 @@ trees_append test [] ms = sym (zero-add _)
 trees_append test (line ∷ ls) ms = omega (arith, trees_append test ls ms)
 
 row_plus : (row : List ℕ) (c n : ℕ) → c < length row → row_total (set row c (get_or row c 0 + n)) ≡ row_total row + n
-unfolding row_total
-row_plus [] c n h = absurd (not-suc-le-zero h)
-row_plus (x ∷ row) zero n h = omega arith
-row_plus (x ∷ row) (suc c) n h = omega (arith, row_plus row c n (le_of_suc-le-suc h))
+row_plus row c n h = omega (arith, sum_by-set (λ x. x) row c (get_or row c 0 + n) 0 h)
 
 table_plus : (t : List (List ℕ)) (r n : ℕ) (row : List ℕ) → r < length t → row_total row ≡ row_total (get_or t r []) + n → table_total (set t r row) ≡ table_total t + n
-unfolding table_total
-table_plus [] r n row h e = absurd (not-suc-le-zero h)
-table_plus (x ∷ t) zero n row h e = omega (arith, e)
-table_plus (x ∷ t) (suc r) n row h e = omega (arith, table_plus t r n row (le_of_suc-le-suc h) e)
+table_plus t r n row h e = omega (arith, e, sum_by-set row_total t r row [] h)
 
 -- ---- what counting does
 pub record Does (l : List ℕ) (t u : List (List ℕ)) (ls : List Line) : Type 0 where

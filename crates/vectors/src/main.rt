@@ -7,11 +7,11 @@
 
 #![tactic(auto)]
 
-ghost use Rattle.std.specs.Prelude.{◌<◌, ◌≤◌, length, IfOk};
-
-use plot::{Added, Located};
+use answers::Numbered;
+use block::Correction;
+use plot::LineAtFault;
 use profile::Profile;
-use sheet::{Mode, Reading};
+use sheet::Mode;
 use std::io;
 use std::io::{Input, Read};
 use tables::stand_table;
@@ -20,88 +20,46 @@ mod tables;
 
 // ---- reading
 
-pub(crate) fn wide(x: u8) -> usize
-    ensures { result < 256 }
-{
-    x as usize
-}
-
-fn least(x: usize, y: usize) -> usize
-    ensures { result ≤ y }
-{
-    if x < y {
-        return x;
+// Reads until the buffer is full or the input ends.
+fn read_full(rt: &impl Input, buf: &mut [u8]) -> io::Result<()> {
+    for (place, byte) in buf.iter_mut().zip(rt.reader().bytes()) {
+        *place = byte?;
     }
-    y
+    Ok(())
 }
 
-fn byte(one: &[u8; 1]) -> u8 {
-    one[0]
+// The next byte, if the input has not ended.
+pub(crate) fn next_byte(rt: &impl Input) -> io::Result<Option<u8>> {
+    rt.reader().bytes().next().transpose()
 }
 
-// Reads until the buffer is full or the input ends: how many bytes were put at its start.
-fn read_full(rt: &impl Input, buf: &mut [u8]) -> io::Result<usize>
-    ensures { IfOk result (λ n. n ≤ length buf.new) }
-{
-    let mut input = rt.reader();
-    let mut done = 0;
-    while done < buf.len() {
-        let n = input.read(&mut buf[done..])?;
-        if n == 0 {
-            break;
-        }
-        done += n;
-    }
-    Ok(done)
+// Numbers of two, four and eight bytes, the low one first, with zeros past the end of the input. They are three functions and not one with a const parameter,
+// which tools/no-tables takes for a table.
+
+pub(crate) fn word(rt: &impl Input) -> io::Result<u16> {
+    let mut bytes = [0u8; 2];
+    read_full(rt, &mut bytes)?;
+    Ok(u16::from_le_bytes(bytes))
 }
 
-// The next byte; 255 at the end of the input.
-pub(crate) fn next_byte(rt: &impl Input) -> io::Result<u8> {
-    let mut one = [255u8; 1];
-    read_full(rt, &mut one)?;
-    Ok(byte(&one))
-}
-
-fn value(pair: &[u8; 2]) -> usize
-    ensures { result < 65536 }
-{
-    wide(pair[0]) + 256 * wide(pair[1])
-}
-
-pub(crate) fn word(rt: &impl Input) -> io::Result<usize>
-    ensures { IfOk result (λ n. n < 65536) }
-{
-    let mut pair = [0u8; 2];
-    read_full(rt, &mut pair)?;
-    Ok(value(&pair))
-}
-
-// A number of eight bytes, the low one first.
-fn long(rt: &impl Input) -> io::Result<usize> {
-    let a = word(rt)? as u64;
-    let b = word(rt)? as u64;
-    let c = word(rt)? as u64;
-    let d = word(rt)? as u64;
-    Ok((a ^ (b << 16) ^ (c << 32) ^ (d << 48)) as usize)
-}
-
-// A number of four bytes, the low one first.
 pub(crate) fn count(rt: &impl Input) -> io::Result<u32> {
-    let low = word(rt)? as u32;
-    let high = word(rt)? as u32;
-    Ok(low ^ (high << 16))
+    let mut bytes = [0u8; 4];
+    read_full(rt, &mut bytes)?;
+    Ok(u32::from_le_bytes(bytes))
 }
 
-fn plot_number(rt: &impl Input) -> io::Result<u16> {
-    Ok(word(rt)? as u16)
+fn long(rt: &impl Input) -> io::Result<usize> {
+    let mut bytes = [0u8; 8];
+    read_full(rt, &mut bytes)?;
+    Ok(usize::from_le_bytes(bytes))
 }
 
 fn profile(rt: &impl Input) -> io::Result<Profile> {
-    let n = word(rt)?;
-    let r = word(rt)?;
-    let b = word(rt)?;
-    let limit = word(rt)?;
-    let depth = word(rt)?;
+    let n = usize::from(word(rt)?);
+    let r = usize::from(word(rt)?);
+    let b = usize::from(word(rt)?);
+    let limit = usize::from(word(rt)?);
+    let depth = usize::from(word(rt)?);
     Ok(Profile {
         n,
         r,
@@ -113,7 +71,7 @@ fn profile(rt: &impl Input) -> io::Result<Profile> {
 
 // As much of the space as the next word says, at most all of it.
 fn part<'a>(rt: &impl Input, space: &'a mut [u8]) -> io::Result<&'a mut [u8]> {
-    let n = least(word(rt)?, space.len());
+    let n = usize::from(word(rt)?).min(space.len());
     Ok(&mut space[..n])
 }
 
@@ -126,30 +84,23 @@ pub(crate) fn buffer<'a>(rt: &impl Input, space: &'a mut [u8]) -> io::Result<&'a
 
 // ---- printing
 
-pub(crate) fn first(rt: &impl Print, x: usize) -> io::Result<()> {
-    print!(rt; "{x}")
-}
-
-pub(crate) fn next(rt: &impl Print, x: usize) -> io::Result<()> {
-    print!(rt; " {x}")
-}
-
 fn cells(rt: &impl Print, s: &[u8]) -> io::Result<()> {
-    let mut i = 0;
-    while i < s.len() {
-        next(rt, wide(s[i]))?;
-        i += 1;
+    for x in s {
+        print!(rt; " {x}")?;
     }
     Ok(())
 }
 
-fn two(rt: &impl Print, x: usize, y: usize) -> io::Result<()> {
-    first(rt, x)?;
-    next(rt, y)
+// The number of an answer in burst mode, and its run.
+fn run(rt: &impl Print, answer: Result<Correction, block::Refusal>) -> io::Result<()> {
+    let start = answer.map_or(0, Correction::start);
+    let length = answer.map_or(0, Correction::length);
+    print!(rt; "{} {start} {length}", answer.number())
 }
 
-fn end(rt: &impl Print) -> io::Result<()> {
-    rt.write_all(b"\n")
+// Figure and index of the line at fault.
+pub(crate) fn fault(rt: &impl Print, answer: &impl LineAtFault) -> io::Result<()> {
+    print!(rt; " {} {}", answer.figure(), answer.index())
 }
 
 // ---- blocks; the second buffer has as many bytes as the stream says, each 170
@@ -159,18 +110,14 @@ fn correct(rt: &(impl Input + Print), p: Profile) -> io::Result<()> {
     let read = buffer(rt, &mut space)?;
     let mut second = [170u8; 512];
     let out = part(rt, &mut second)?;
-    let v = block::correct(p, read, out);
-    two(rt, v.number(), v.start())?;
-    next(rt, v.length())?;
+    run(rt, block::correct(p, read, out))?;
     cells(rt, out)
 }
 
 fn look(rt: &(impl Input + Print), p: Profile) -> io::Result<()> {
     let mut space = [0u8; 4096];
     let read = buffer(rt, &mut space)?;
-    let v = block::look(p, read);
-    two(rt, v.number(), v.start())?;
-    next(rt, v.length())
+    run(rt, block::look(p, read))
 }
 
 fn fill(rt: &(impl Input + Print), p: Profile) -> io::Result<()> {
@@ -180,7 +127,7 @@ fn fill(rt: &(impl Input + Print), p: Profile) -> io::Result<()> {
     let length = long(rt)?;
     let mut second = [170u8; 512];
     let out = part(rt, &mut second)?;
-    first(rt, block::fill(p, read, start, length, out).number())?;
+    print!(rt; "{}", block::fill(p, read, start, length, out).number())?;
     cells(rt, out)
 }
 
@@ -190,7 +137,7 @@ fn list(rt: &(impl Input + Print), p: Profile) -> io::Result<()> {
     let mut second = [170u8; 512];
     let pairs = part(rt, &mut second)?;
     let answer = candidates::list(p, read, pairs);
-    two(rt, answer.number(), answer.count())?;
+    print!(rt; "{} {}", answer.number(), answer.unwrap_or(0))?;
     cells(rt, pairs)
 }
 
@@ -199,9 +146,10 @@ fn correct_spots(rt: &(impl Input + Print), p: Profile) -> io::Result<()> {
     let read = buffer(rt, &mut space)?;
     let mut second = [170u8; 512];
     let out = part(rt, &mut second)?;
-    let v = spots::correct(p, read, out);
-    two(rt, v.number(), v.count())?;
-    next(rt, v.lowest())?;
+    let answer = spots::correct(p, read, out);
+    let changed = answer.map_or(0, Correction::count);
+    let lowest = answer.map_or(0, Correction::lowest);
+    print!(rt; "{} {changed} {lowest}", answer.number())?;
     cells(rt, out)
 }
 
@@ -210,15 +158,15 @@ fn write(rt: &(impl Input + Print), p: Profile) -> io::Result<()> {
     let message = buffer(rt, &mut space)?;
     let mut second = [170u8; 512];
     let out = part(rt, &mut second)?;
-    first(rt, block::write(p, message, out).number())?;
+    print!(rt; "{}", block::write(p, message, out).number())?;
     cells(rt, out)
 }
 
 fn check(rt: &(impl Input + Print), p: Profile) -> io::Result<()> {
     let mut space = [0u8; 4096];
     let read = buffer(rt, &mut space)?;
-    let c = block::check(p, read);
-    two(rt, c.number(), c.clean())
+    let answer = block::check(p, read);
+    print!(rt; "{} {}", answer.number(), answer.map_or(0, u8::from))
 }
 
 // ---- sheets
@@ -228,7 +176,8 @@ fn write_sheet(rt: &(impl Input + Print), p: Profile) -> io::Result<()> {
     let payload = buffer(rt, &mut first_space)?;
     let mut second_space = [0u8; 4096];
     let sheet = buffer(rt, &mut second_space)?;
-    two(rt, sheet::write(p, payload, sheet).number(), 0)?;
+    let answer = sheet::write(p, payload, sheet);
+    print!(rt; "{} {}", answer.number(), answer.place())?;
     cells(rt, sheet)
 }
 
@@ -239,72 +188,50 @@ fn read_sheet(rt: &(impl Input + Print), m: Mode, p: Profile) -> io::Result<()> 
     let scratch = buffer(rt, &mut second_space)?;
     let mut third_space = [0u8; 4096];
     let payload = buffer(rt, &mut third_space)?;
-    match sheet::read_in(m, p, sheet, scratch, payload) {
-        Reading::Accepted { changed } => two(rt, 0, changed)?,
-        Reading::Refused(r) => two(rt, r.number(), r.place())?,
-    }
+    let answer = sheet::read_in(m, p, sheet, scratch, payload);
+    let place = answer.unwrap_or_else(|refusal| refusal.place());
+    print!(rt; "{} {place}", answer.number())?;
     cells(rt, scratch)?;
     cells(rt, payload)
 }
 
 // ---- payloads
 
-fn refused(rt: &impl Print, r: plot::Refusal) -> io::Result<()> {
-    two(rt, wide(r.number()), r.place())
-}
-
-// Figure and index of the line at fault.
-pub(crate) fn fault(rt: &impl Print, figure: u8, index: usize) -> io::Result<()> {
-    next(rt, wide(figure))?;
-    next(rt, index)
-}
-
 fn check_payload(rt: &(impl Input + Print)) -> io::Result<()> {
     let mut space = [0u8; 4096];
     let payload = buffer(rt, &mut space)?;
     let answer = plot::check(payload);
-    match answer {
-        plot::Checked::Accepted(c) => two(rt, 0, c.at)?,
-        plot::Checked::Refused(r) => refused(rt, r)?,
-    }
-    fault(rt, answer.figure(), answer.index())
+    let place = answer.map_or_else(|refusal| refusal.place(), |end| end.at);
+    print!(rt; "{} {place}", answer.number())?;
+    fault(rt, &answer)
 }
 
 fn ask(rt: &(impl Input + Print)) -> io::Result<()> {
     let mut space = [0u8; 4096];
     let payload = buffer(rt, &mut space)?;
-    let plot = plot_number(rt)?;
+    let plot = word(rt)?;
     let answer = plot::locate(payload, plot);
-    match answer {
-        Located::At { start, len } => {
-            two(rt, 0, start)?;
-            next(rt, len)?;
-        }
-        Located::Refused(r) => {
-            refused(rt, r)?;
-            next(rt, 0)?;
-        }
-    }
-    fault(rt, answer.figure(), answer.index())?;
+    let place = answer.map_or_else(|refusal| refusal.place(), |record| record.start);
+    let length = answer.map_or(0, |record| record.length);
+    print!(rt; "{} {place} {length}", answer.number())?;
+    fault(rt, &answer)?;
     cells(rt, plot::ask(payload, plot))
 }
 
 fn add(rt: &(impl Input + Print)) -> io::Result<()> {
     let mut first_space = [0u8; 4096];
     let payload = buffer(rt, &mut first_space)?;
-    let plot = plot_number(rt)?;
+    let plot = word(rt)?;
     let mut second_space = [0u8; 4096];
     let lines = buffer(rt, &mut second_space)?;
     let answer = plot::add(payload, plot, lines);
-    match answer {
-        Added::At(start) => two(rt, 0, start)?,
-        Added::Refused(r) => refused(rt, r)?,
-    }
-    fault(rt, answer.figure(), answer.index())?;
+    let place = answer.unwrap_or_else(|refusal| refusal.place());
+    print!(rt; "{} {place}", answer.number())?;
+    fault(rt, &answer)?;
     cells(rt, payload)
 }
 
-// A vector after its first byte.
+// A vector after its first byte. The bytes are matched as they are: an enum of the operations would list all of them twice more.
 fn vector(rt: &(impl Input + Print), o: u8) -> io::Result<()> {
     match o {
         0 => correct(rt, profile(rt)?)?,
@@ -322,19 +249,16 @@ fn vector(rt: &(impl Input + Print), o: u8) -> io::Result<()> {
         13 => list(rt, profile(rt)?)?,
         _ => stand_table(rt)?,
     }
-    end(rt)
+    rt.write_all(b"\n")
 }
 
-// At most 2,000 vectors, so that it ends.
+// At most 2,000 vectors, so that it ends; the byte 255 ends them too.
 fn main(rt: HostRuntime) -> io::Result<()> {
-    let mut left: usize = 2000;
-    while 0 < left {
-        let o = next_byte(&rt)?;
-        if o == 255 {
-            return Ok(());
+    for _ in 0..2000 {
+        match next_byte(&rt)? {
+            None | Some(255) => break,
+            Some(o) => vector(&rt, o)?,
         }
-        vector(&rt, o)?;
-        left -= 1;
     }
     Ok(())
 }

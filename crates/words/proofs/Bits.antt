@@ -7,19 +7,19 @@ use native.Mathlib.Nat.{div-one, mul_right_comm, mul-le-mul, add-mul as ℕ-add-
 use native.Mathlib.Omega.{arith}
 use lib.Bits.{bit_and, bit_xor, and_le_r}
 use lib.Dec.{T}
+use lib.ListN.{get_or}
 use lib.Pow.{shr-shr, split, high, low}
-use Rattle.lists.proofs.Test.{all, all-at, equal_below}
+use Rattle.lists.proofs.Test.{all, all-at}
 use Rattle.field.specs.Field.{add, mul, mul_bits, double}
-use Rattle.field.proofs.Sum.{Additive, agree-byte, bit-lt, add_low, add_self}
-use Rattle.field.proofs.Product.{mul-add, mul-zero, mul-one, mul-two, mul-lt, one-mul, mul_comm, mul_assoc, mul_left_comm}
+use Rattle.field.proofs.Sum.{Additive, agree-byte, bit-lt, add_low}
+use Rattle.field.proofs.Product.{mul-add, mul-zero, mul-one, one-mul, mul_comm, mul_assoc}
 use Rattle.lists.specs.Bytes.{Bytes}
 use Rattle.code.specs.Poly.{padd, pscale}
+use Rattle.code.proofs.Poly.{pscale-mul}
 use Rattle.words.specs.Word.{byte, bytes_from}
-use Rattle.words.specs.Cells.{shift_down}
-use Rattle.words.specs.Doubles.{DoublesOf, bits_at, next_doubles, times_doubles}
-use Rattle.words.specs.declared.Doubles.{Doubles}
+use Rattle.words.specs.Doubles.{Doubled, bits_at}
 use Rattle.words.proofs.Linear.{family, agree_b, shr, byte-add, shr-add, and-add, after, sum-add}
-use Rattle.words.proofs.Words.{word_bytes, down_bytes, word_sum, same8}
+use Rattle.words.proofs.Words.{word_bytes, word_sum, same8}
 
 abbrev pub ones : ℕ
 ones = 0x0101010101010101
@@ -160,77 +160,61 @@ unfolding padd pscale bits_at
 list_sum a [] h = refl
 list_sum a (x ∷ l) h = ap₂ ◌∷◌ (cell_sum a x h.0) (list_sum a l h.1)
 
--- the words of eight planes, added
-pub planes_sum : (w : ℕ) (d : Doubles) (p0 p1 p2 p3 p4 p5 p6 p7 : ℕ)
-    → bytes_from 8 0 p0 ≡ pscale d.c0 (bits_at 0 (bytes_from 8 0 w))
-    → bytes_from 8 0 p1 ≡ pscale d.c1 (bits_at 1 (bytes_from 8 0 w))
-    → bytes_from 8 0 p2 ≡ pscale d.c2 (bits_at 2 (bytes_from 8 0 w))
-    → bytes_from 8 0 p3 ≡ pscale d.c3 (bits_at 3 (bytes_from 8 0 w))
-    → bytes_from 8 0 p4 ≡ pscale d.c4 (bits_at 4 (bytes_from 8 0 w))
-    → bytes_from 8 0 p5 ≡ pscale d.c5 (bits_at 5 (bytes_from 8 0 w))
-    → bytes_from 8 0 p6 ≡ pscale d.c6 (bits_at 6 (bytes_from 8 0 w))
-    → bytes_from 8 0 p7 ≡ pscale d.c7 (bits_at 7 (bytes_from 8 0 w))
-    → bytes_from 8 0 (bit_xor (bit_xor (bit_xor (bit_xor p0 p1) p2) p3) (bit_xor (bit_xor (bit_xor p4 p5) p6) p7)) ≡ times_doubles d (bytes_from 8 0 w)
-unfolding times_doubles
-planes_sum w d p0 p1 p2 p3 p4 p5 p6 p7 h0 h1 h2 h3 h4 h5 h6 h7 =
-    word_sum _ _ (word_sum _ _ (word_sum _ _ (word_sum p0 p1 h0 h1) h2) h3) (word_sum _ _ (word_sum _ _ (word_sum p4 p5 h4 h5) h6) h7)
-
--- a blank word has no bits
-pub blank_planes : (d : Doubles) (w : ℕ) → w ≡ 0 → bytes_from 8 0 0 ≡ times_doubles d (bytes_from 8 0 w)
-unfolding byte times_doubles padd pscale bits_at
-blank_planes d w e = sym (ap (λ (v : ℕ). times_doubles d (bytes_from 8 0 v)) e ∙ same8 _ _ _ _ _ _ _ _ _ _ _ _ _ _ _ _ z z z z z z z z)
-  where
-    z : sum8 (mul d.c0 0) (mul d.c1 0) (mul d.c2 0) (mul d.c3 0) (mul d.c4 0) (mul d.c5 0) (mul d.c6 0) (mul d.c7 0) ≡ 0
-    z = rw (mul-zero d.c0, mul-zero d.c1, mul-zero d.c2, mul-zero d.c3, mul-zero d.c4, mul-zero d.c5, mul-zero d.c6, mul-zero d.c7, add_self 0, add_self 0, add_self 0, add_self 0)
-
--- the doubles of a multiply by a
-module _ (a : ℕ) (d : Doubles) (e : DoublesOf a d) where
-  doubles_multiply : (l : List ℕ) → Bytes l → times_doubles d l ≡ pscale a l
-  unfolding times_doubles
-  doubles_multiply l h =
-      ap₂ padd (ap₂ padd (ap₂ padd (ap₂ padd (on 0 e.0) (on 1 e.1)) (on 2 e.2)) (on 3 e.3))
-      (ap₂ padd (ap₂ padd (ap₂ padd (on 4 e.4) (on 5 e.5)) (on 6 e.6)) (on 7 e.7))
-      ∙ list_sum a l h
-    where
-      on : (k : ℕ) {c m : ℕ} → c ≡ m → pscale c (bits_at k l) ≡ pscale m (bits_at k l)
-      on k q = ap (λ (v : ℕ). pscale v (bits_at k l)) q
-
-  pub word_multiple : (w z : ℕ) → bytes_from 8 0 z ≡ times_doubles d (bytes_from 8 0 w) → bytes_from 8 0 z ≡ pscale a (bytes_from 8 0 w)
-  word_multiple w z q = q ∙ doubles_multiply (bytes_from 8 0 w) (word_bytes 8 0 w)
-
-  pub word-rooted : (w above z : ℕ) → bytes_from 8 0 z ≡ padd (bytes_from 8 0 w) (times_doubles d (shift_down (bytes_from 8 0 w) (byte above 0)))
-      → bytes_from 8 0 z ≡ padd (bytes_from 8 0 w) (pscale a (shift_down (bytes_from 8 0 w) (byte above 0)))
-  word-rooted w above z q = q ∙ ap (padd (bytes_from 8 0 w)) (doubles_multiply (shift_down (bytes_from 8 0 w) (byte above 0)) (down_bytes w above))
-
 -- ---- the doubles
 
-power-turn : (k : ℕ) → k < 7 → mul 2 (2 ^ k) ≡ 2 ^ suc k
+-- what is doubled time and again is each time twice as large a multiple
+pub multiples : {A : Type 0} (cells : A → List ℕ) (c0 c1 c2 c3 c4 c5 c6 c7 : A) → Doubled cells c0 c1 c2 c3 c4 c5 c6 c7
+    → (cells c1 ≡ pscale 2 (cells c0)) × (cells c2 ≡ pscale 4 (cells c0)) × (cells c3 ≡ pscale 8 (cells c0)) × (cells c4 ≡ pscale 16 (cells c0))
+    × (cells c5 ≡ pscale 32 (cells c0)) × (cells c6 ≡ pscale 64 (cells c0)) × (cells c7 ≡ pscale 128 (cells c0))
 unfolding mul mul_bits double add
-power-turn = equal_below (λ k. mul 2 (2 ^ k)) (λ k. 2 ^ suc k) 7 tt
+multiples cells c0 c1 c2 c3 c4 c5 c6 c7 e =
+    let l : List ℕ = cells c0 in
+    let m2 : cells c2 ≡ pscale 4 l = e.1 ∙ ap (pscale 2) e.0 ∙ pscale-mul 2 2 l in
+    let m3 : cells c3 ≡ pscale 8 l = e.2 ∙ ap (pscale 2) m2 ∙ pscale-mul 2 4 l in
+    let m4 : cells c4 ≡ pscale 16 l = e.3 ∙ ap (pscale 2) m3 ∙ pscale-mul 2 8 l in
+    let m5 : cells c5 ≡ pscale 32 l = e.4 ∙ ap (pscale 2) m4 ∙ pscale-mul 2 16 l in
+    let m6 : cells c6 ≡ pscale 64 l = e.5 ∙ ap (pscale 2) m5 ∙ pscale-mul 2 32 l in
+    let m7 : cells c7 ≡ pscale 128 l = e.6 ∙ ap (pscale 2) m6 ∙ pscale-mul 2 64 l in
+    (e.0, m2, m3, m4, m5, m6, m7)
 
-twice : (k a : ℕ) → k < 7 → double (mul (2 ^ k) a) ≡ mul (2 ^ suc k) a
-twice k a h = sym (mul-two (mul (2 ^ k) a) (mul-lt (2 ^ k) a)) ∙ sym (mul_assoc 2 (2 ^ k) a) ∙ ap (λ (x : ℕ). mul x a) (power-turn k h)
+abbrev pub one_cell : ℕ → List ℕ
+one_cell c = c ∷ []
 
-pub doubles_law : (a c1 c2 c3 c4 c5 c6 c7 : ℕ) → a < 256 → c1 ≡ double a → c2 ≡ double c1 → c3 ≡ double c2 → c4 ≡ double c3 → c5 ≡ double c4 → c6 ≡ double c5 → c7 ≡ double c6
-    → DoublesOf a (record { c0 = a; c1 = c1; c2 = c2; c3 = c3; c4 = c4; c5 = c5; c6 = c6; c7 = c7 })
-doubles_law a c1 c2 c3 c4 c5 c6 c7 h e1 e2 e3 e4 e5 e6 e7 =
-    let m0 : a ≡ mul 1 a = sym (one-mul a h) in
-    let m1 : c1 ≡ mul 2 a = e1 ∙ ap double m0 ∙ twice 0 a (omega arith) in
-    let m2 : c2 ≡ mul 4 a = e2 ∙ ap double m1 ∙ twice 1 a (omega arith) in
-    let m3 : c3 ≡ mul 8 a = e3 ∙ ap double m2 ∙ twice 2 a (omega arith) in
-    let m4 : c4 ≡ mul 16 a = e4 ∙ ap double m3 ∙ twice 3 a (omega arith) in
-    let m5 : c5 ≡ mul 32 a = e5 ∙ ap double m4 ∙ twice 4 a (omega arith) in
-    let m6 : c6 ≡ mul 64 a = e6 ∙ ap double m5 ∙ twice 5 a (omega arith) in
-    let m7 : c7 ≡ mul 128 a = e7 ∙ ap double m6 ∙ twice 6 a (omega arith) in
-    (m0, m1, m2, m3, m4, m5, m6, m7)
+pub first_cell : (m a c : ℕ) → one_cell c ≡ pscale m (one_cell a) → c ≡ mul m a
+unfolding pscale
+first_cell m a c e = ap (λ (l : List ℕ). get_or l 0 0) e
 
--- the doubles of 2 a: each moves down by one place
-pub next_doubles_lem : (a : ℕ) (d : Doubles) → DoublesOf a d → DoublesOf (mul 2 a) (next_doubles d)
-next_doubles_lem a d e =
-    (e.1 ∙ down 0 (omega arith), e.2 ∙ down 1 (omega arith), e.3 ∙ down 2 (omega arith), e.4 ∙ down 3 (omega arith), e.5 ∙ down 4 (omega arith), e.6 ∙ down 5 (omega arith), e.7 ∙ down 6 (omega arith), ap double e.7 ∙ turned 7)
+-- the doubles of a byte
+pub byte_doubles : (a c1 c2 c3 c4 c5 c6 c7 : ℕ) → a < 256 → Doubled one_cell a c1 c2 c3 c4 c5 c6 c7
+    → (a ≡ mul 1 a) × (c1 ≡ mul 2 a) × (c2 ≡ mul 4 a) × (c3 ≡ mul 8 a) × (c4 ≡ mul 16 a) × (c5 ≡ mul 32 a) × (c6 ≡ mul 64 a) × (c7 ≡ mul 128 a)
+byte_doubles a c1 c2 c3 c4 c5 c6 c7 h e =
+    let m = multiples one_cell a c1 c2 c3 c4 c5 c6 c7 e in
+    (sym (one-mul a h), first_cell 2 a c1 m.0, first_cell 4 a c2 m.1, first_cell 8 a c3 m.2, first_cell 16 a c4 m.3, first_cell 32 a c5 m.4, first_cell 64 a c6 m.5, first_cell 128 a c7 m.6)
+
+-- the words of eight planes, added: a times the word
+pub planes_sum : (w a c1 c2 c3 c4 c5 c6 c7 p0 p1 p2 p3 p4 p5 p6 p7 : ℕ) → a < 256 → Doubled one_cell a c1 c2 c3 c4 c5 c6 c7
+    → bytes_from 8 0 p0 ≡ pscale a (bits_at 0 (bytes_from 8 0 w))
+    → bytes_from 8 0 p1 ≡ pscale c1 (bits_at 1 (bytes_from 8 0 w))
+    → bytes_from 8 0 p2 ≡ pscale c2 (bits_at 2 (bytes_from 8 0 w))
+    → bytes_from 8 0 p3 ≡ pscale c3 (bits_at 3 (bytes_from 8 0 w))
+    → bytes_from 8 0 p4 ≡ pscale c4 (bits_at 4 (bytes_from 8 0 w))
+    → bytes_from 8 0 p5 ≡ pscale c5 (bits_at 5 (bytes_from 8 0 w))
+    → bytes_from 8 0 p6 ≡ pscale c6 (bits_at 6 (bytes_from 8 0 w))
+    → bytes_from 8 0 p7 ≡ pscale c7 (bits_at 7 (bytes_from 8 0 w))
+    → bytes_from 8 0 (bit_xor (bit_xor (bit_xor (bit_xor p0 p1) p2) p3) (bit_xor (bit_xor (bit_xor p4 p5) p6) p7)) ≡ pscale a (bytes_from 8 0 w)
+planes_sum w a c1 c2 c3 c4 c5 c6 c7 p0 p1 p2 p3 p4 p5 p6 p7 h d h0 h1 h2 h3 h4 h5 h6 h7 =
+    let e = byte_doubles a c1 c2 c3 c4 c5 c6 c7 h d in
+    word_sum _ _ (word_sum _ _ (word_sum _ _ (word_sum p0 p1 (h0 ∙ on 0 e.0) (h1 ∙ on 1 e.1)) (h2 ∙ on 2 e.2)) (h3 ∙ on 3 e.3))
+    (word_sum _ _ (word_sum _ _ (word_sum p4 p5 (h4 ∙ on 4 e.4) (h5 ∙ on 5 e.5)) (h6 ∙ on 6 e.6)) (h7 ∙ on 7 e.7))
+    ∙ list_sum a (bytes_from 8 0 w) (word_bytes 8 0 w)
   where
-    turned : (k : ℕ) → double (mul (2 ^ k) a) ≡ mul (2 ^ k) (mul 2 a)
-    turned k = sym (mul-two (mul (2 ^ k) a) (mul-lt (2 ^ k) a)) ∙ mul_left_comm 2 (2 ^ k) a
+    on : (k : ℕ) {c m : ℕ} → c ≡ m → pscale c (bits_at k (bytes_from 8 0 w)) ≡ pscale m (bits_at k (bytes_from 8 0 w))
+    on k q = ap (λ (v : ℕ). pscale v (bits_at k (bytes_from 8 0 w))) q
 
-    down : (k : ℕ) → k < 7 → mul (2 ^ suc k) a ≡ mul (2 ^ k) (mul 2 a)
-    down k h = sym (twice k a h) ∙ turned k
+-- a blank word has no bits
+pub blank_scaled : (a w : ℕ) → w ≡ 0 → bytes_from 8 0 0 ≡ pscale a (bytes_from 8 0 w)
+unfolding byte pscale
+blank_scaled a w e = sym (ap (λ (v : ℕ). pscale a (bytes_from 8 0 v)) e ∙ same8 _ _ _ _ _ _ _ _ _ _ _ _ _ _ _ _ z z z z z z z z)
+  where
+    z : mul a 0 ≡ 0
+    z = mul-zero a

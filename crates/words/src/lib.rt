@@ -4,26 +4,25 @@
 
 #![tactic(auto)]
 
-ghost use Rattle.std.specs.Prelude.{◌≡◌, ◌*◌, ◌^◌, ◌<◌, ◌≤◌, min, drop};
-ghost use Rattle.code.specs.Code.{nonzero};
+ghost use Rattle.std.specs.Prelude.{◌≡◌, List, [], ◌∷◌, ℕ, ◌*◌, ◌^◌, ◌<◌, ◌≤◌, drop};
 ghost use Rattle.code.specs.Poly.{padd, pscale};
 ghost use Rattle.code.specs.Search.{extent};
 ghost use Rattle.words.specs.Word.{byte, bytes_from};
-ghost use Rattle.words.specs.Doubles.{DoublesOf, bits_at, next_doubles, times_doubles};
+ghost use Rattle.words.specs.Doubles.{Doubled, bits_at};
 ghost use Rattle.words.specs.Cells.{shift_up, shift_down, pad_to};
 
 /// The cell as the highest of a word.
 pub fn at_top(c: u8) -> u64
     ensures { result ≡ c * 2 ^ 56 }
 {
-    (c as u64) << 56
+    u64::from(c) << 56
 }
 
 /// The cell as the lowest of a word.
 pub fn at_bottom(c: u8) -> u64
     ensures { result ≡ c }
 {
-    c as u64
+    u64::from(c)
 }
 
 /// Cell k of a word; 0 past its eight cells.
@@ -50,26 +49,6 @@ pub fn word_down(w: u64, above: u64) -> u64
     (w >> 8) ^ (above << 56)
 }
 
-/// 1 for a cell that is not zero, and 0 for one that is.
-pub fn nonzero(c: u8) -> usize
-    ensures { result ≡ nonzero c }
-{
-    if c != 0 {
-        return 1;
-    }
-    0
-}
-
-/// The lesser of two counts.
-pub fn least(m: usize, n: usize) -> usize
-    ensures { result ≡ min m n }
-{
-    if m < n {
-        return m;
-    }
-    n
-}
-
 /// Eight cells of a slice as a word, from cell k on, with zeros where it has fewer.
 pub fn load_word(s: &[u8], k: usize) -> u64
     ensures { bytes_from 8 0 result ≡ pad_to 8 (drop k s.now) }
@@ -78,9 +57,8 @@ pub fn load_word(s: &[u8], k: usize) -> u64
         return 0;
     }
     let mut w: u64 = 0;
-    let mut i = least(s.len(), k + 8);
-    while k < i {
-        i -= 1;
+    let end = s.len().min(k + 8);
+    for i in (k..end).rev() {
         w = word_up(w, at_top(s[i]));
     }
     w
@@ -102,56 +80,82 @@ pub fn word_extent(w: u64) -> usize
     8 - (u64::leading_zeros(w) as usize) / 8
 }
 
-/// a, 2 a, 4 a, .., 128 a.
-#[derive(Clone, Copy)]
-pub struct Doubles {
-    pub c0: u8,
-    pub c1: u8,
-    pub c2: u8,
-    pub c3: u8,
-    pub c4: u8,
-    pub c5: u8,
-    pub c6: u8,
-    pub c7: u8,
+/// What can be doubled cell by cell: a cell, or a word of eight.
+pub trait Doubling: Copy {
+    ghost cells: { Self → List ℕ };
+
+    fn twice(self) -> Self
+        ensures { cells result ≡ pscale 2 (cells self) };
 }
 
-/// The doubles of a.
-pub fn doubles_of(a: u8) -> Doubles
-    ensures { DoublesOf a result }
-{
-    let c1 = field::double(a);
-    let c2 = field::double(c1);
-    let c3 = field::double(c2);
-    let c4 = field::double(c3);
-    let c5 = field::double(c4);
-    let c6 = field::double(c5);
-    let c7 = field::double(c6);
-    Doubles {
-        c0: a,
-        c1,
-        c2,
-        c3,
-        c4,
-        c5,
-        c6,
-        c7,
+impl Doubling for u8 {
+    ghost cells = { λ c. c ∷ [] };
+
+    fn twice(self) -> u8 {
+        field::double(self)
     }
 }
 
-/// The doubles of 2 a, from those of a: each moves down by one place.
-pub fn next_doubles(d: Doubles) -> Doubles
-    ensures { result ≡ next_doubles d }
-{
-    let c7 = field::double(d.c7);
-    Doubles {
-        c0: d.c1,
-        c1: d.c2,
-        c2: d.c3,
-        c3: d.c4,
-        c4: d.c5,
-        c5: d.c6,
-        c6: d.c7,
-        c7,
+impl Doubling for u64 {
+    ghost cells = { bytes_from 8 0 };
+
+    fn twice(self) -> u64 {
+        word_twice(self)
+    }
+}
+
+/// a, 2 a, 4 a, .., 128 a: each is twice the one before.
+#[derive(Drop)]
+pub struct Doubles<T: Doubling> {
+    pub c0: T,
+    pub c1: T,
+    pub c2: T,
+    pub c3: T,
+    pub c4: T,
+    pub c5: T,
+    pub c6: T,
+    pub c7: T,
+    pub ghost doubled: { Doubled T.cells c0 c1 c2 c3 c4 c5 c6 c7 },
+}
+
+impl<T: Doubling> Doubles<T> {
+    /// The doubles of a.
+    pub fn of(a: T) -> Doubles<T>
+        ensures { result.c0 ≡ a }
+    {
+        let c1 = a.twice();
+        let c2 = c1.twice();
+        let c3 = c2.twice();
+        let c4 = c3.twice();
+        let c5 = c4.twice();
+        let c6 = c5.twice();
+        let c7 = c6.twice();
+        Doubles {
+            c0: a,
+            c1,
+            c2,
+            c3,
+            c4,
+            c5,
+            c6,
+            c7,
+        }
+    }
+
+    /// The doubles of 2 a, from those of a: each moves down by one place.
+    pub fn next(&self) -> Doubles<T>
+        ensures { result.c0 ≡ self.now.c1 }
+    {
+        Doubles {
+            c0: self.c1,
+            c1: self.c2,
+            c2: self.c3,
+            c3: self.c4,
+            c4: self.c5,
+            c5: self.c6,
+            c6: self.c7,
+            c7: self.c7.twice(),
+        }
     }
 }
 
@@ -160,12 +164,12 @@ fn plane(w: u64, k: u64, c: u8) -> u64
     requires { k < 8 }
     ensures { bytes_from 8 0 result ≡ pscale c (bits_at k (bytes_from 8 0 w)) }
 {
-    ((w >> k) & 0x0101010101010101) * (c as u64)
+    ((w >> k) & 0x0101010101010101) * u64::from(c)
 }
 
 /// Each cell of a word times a, of which d has the doubles, over the bits of the cells; a blank word needs no work.
-pub fn word_scale(d: Doubles, w: u64) -> u64
-    ensures { bytes_from 8 0 result ≡ times_doubles d (bytes_from 8 0 w) }
+pub fn word_scale(d: &Doubles<u8>, w: u64) -> u64
+    ensures { bytes_from 8 0 result ≡ pscale d.now.c0 (bytes_from 8 0 w) }
 {
     if w == 0 {
         return 0;
@@ -176,8 +180,8 @@ pub fn word_scale(d: Doubles, w: u64) -> u64
 }
 
 /// A word of a generator's cells with a further root a, of which d has the doubles: the word, and a times the word moved down by a cell.
-pub fn word_root(d: Doubles, w: u64, above: u64) -> u64
-    ensures { bytes_from 8 0 result ≡ padd (bytes_from 8 0 w) (times_doubles d (shift_down (bytes_from 8 0 w) (byte above 0))) }
+pub fn word_root(d: &Doubles<u8>, w: u64, above: u64) -> u64
+    ensures { bytes_from 8 0 result ≡ padd (bytes_from 8 0 w) (pscale d.now.c0 (shift_down (bytes_from 8 0 w) (byte above 0))) }
 {
     w ^ word_scale(d, word_down(w, above))
 }

@@ -1,37 +1,21 @@
 -- `block::check` meets its contract: the register of the remainder is zero exactly if the remainder is.
-use mathlib.Core.Path.{◌≡◌, sym, ◌∙◌}
-use mathlib.Core.Bool.{true, false}
-use Rattle.profile.specs.Profile.{in_range}
-use Rattle.profile.proofs.Ranges.{in_range_lem}
-use Rattle.block.proofs.Entries.{zero_clean, check-one, check-two, check-rest}
+use Rattle.std.proofs.Common.{rules, Ok}
+use mathlib.Core.Path.{sym, ap, ◌∙◌}
+use Rattle.profile.specs.Refusals.{refusing}
+use Rattle.profile.proofs.Refusing.{admitted_in_range, admitted_rest}
+use Rattle.block.specs.Block.{check_answer}
+use Rattle.block.proofs.Entries.{zero_clean}
 use Rattle.block.proofs.check.Goals as goal
 
-pub returns-then-not-in_range : goal.returns-then-not-in_range
-returns-then-not-in_range c = check-one _ _ (sym c.in_range.ensures ∙ c.if-not-in_range.true)
+pub returns-in_err-admit : goal.returns-in_err-admit
+unfolding check_answer refusing
+returns-in_err-admit c = search rules
 
-pub returns-then-read-p : goal.returns-then-read-p
-returns-then-read-p c = check-two _ _ (sym c.in_range.ensures ∙ c.if-not-in_range.false) c.if-read-p.true
-
-pub generator_of-requires : goal.generator_of-requires
-generator_of-requires c =
-    let valid : in_range c.args.p ≡ true = sym c.in_range.ensures ∙ c.if-not-in_range.false in
-    (in_range_lem _).0 (valid)
-
-pub remainder_of-requires : goal.remainder_of-requires
-remainder_of-requires c =
-    let valid : in_range c.args.p ≡ true = sym c.in_range.ensures ∙ c.if-not-in_range.false in
-    record { in_range = (in_range_lem _).0 (valid); g_value = c.generator_of.ensures }
-
-pub returns-then-is_zero : goal.returns-then-is_zero
-returns-then-is_zero c =
-    let valid : in_range c.args.p ≡ true = sym c.in_range.ensures ∙ c.if-not-in_range.false in
-    let v = valid in
-    check-rest _ _ v c.if-read-p.false true
-    (sym (zero_clean _ ((in_range_lem _).0 v) _ _ _ c.remainder_of.ensures c.is_zero.ensures) ∙ c.if-is_zero.true)
+pub new-requires : goal.new-requires
+new-requires c = admitted_in_range _ _ _ (sym c.admit.ensures ∙ c.in_ok-admit.was)
 
 pub returns : goal.returns
+unfolding check_answer
 returns c =
-    let valid : in_range c.args.p ≡ true = sym c.in_range.ensures ∙ c.if-not-in_range.false in
-    let v = valid in
-    check-rest _ _ v c.if-read-p.false false
-    (sym (zero_clean _ ((in_range_lem _).0 v) _ _ _ c.remainder_of.ensures c.is_zero.ensures) ∙ c.if-is_zero.false)
+    let q = sym c.admit.ensures ∙ c.in_ok-admit.was in
+    ap Ok (zero_clean _ (admitted_in_range _ _ _ q) _ _ _ (rw c.new.ensures at c.remainder-rest.ensures) c.is_zero.ensures) ∙ admitted_rest _ _ _ _ _ _ q

@@ -1,40 +1,50 @@
 -- `block::fill_by` meets its contract: each return is a case of the definition.
+use Rattle.std.proofs.Common.{rules, ◌≡◌, length}
 use native.Mathlib.Omega.{arith}
-use mathlib.Core.Path.{◌≡◌, sym, ◌∙◌}
-use mathlib.Core.Bool.{true}
-use Rattle.profile.specs.Profile.{in_range}
-use Rattle.profile.proofs.Ranges.{in_range_lem}
-use Rattle.block.specs.Block.{is_span}
-use Rattle.block.proofs.Entries.{correct_fits_lem, read_wrong, out_wrong}
-use Rattle.block.proofs.Filling.{span_iff, by_one, by_two, by_span, by_rest}
+use mathlib.Core.Path.{sym, ◌∙◌}
+use Rattle.profile.specs.Profile.{InRange}
+use Rattle.profile.proofs.Refusing.{admitted, admitted_in_range}
+use Rattle.block.proofs.Filling.{span_iff}
+use Rattle.profile.specs.Refusals.{refusing}
+use Rattle.block.specs.Block.{correct_fits, filling, fill_by_answer, fill_by_leaves}
 use Rattle.block.proofs.fill_by.Goals as goal
 
-pub returns-then-not-in_range : goal.returns-then-not-in_range
-returns-then-not-in_range c =
-    let whole = by_one _ _ _ _ _ _ (sym c.in_range.ensures ∙ c.if-not-in_range.true) in
-    record { value = whole.0; out_after = whole.1 }
+pub returns-in_err-admit-clause-value : goal.returns-in_err-admit-clause-value
+unfolding fill_by_answer filling correct_fits refusing
+returns-in_err-admit-clause-value c = search rules
 
-pub returns-then-read-p : goal.returns-then-read-p
-returns-then-read-p c =
-    let whole = by_two _ _ _ _ _ _ (sym c.in_range.ensures ∙ c.if-not-in_range.false) (read_wrong _ _ _ c.if-read-p.true) in
-    record { value = whole.0; out_after = whole.1 }
+pub returns-in_err-admit-clause-out_after : goal.returns-in_err-admit-clause-out_after
+unfolding fill_by_leaves filling correct_fits refusing
+returns-in_err-admit-clause-out_after c = search rules
 
-pub returns-then-out-p : goal.returns-then-out-p
-returns-then-out-p c =
-    let valid : in_range c.args.p ≡ true = sym c.in_range.ensures ∙ c.if-not-in_range.false in let whole = by_two _ _ _ _ _ _ (valid) (out_wrong _ _ _ c.if-read-p.false c.if-out-p.true) in
-    record { value = whole.0; out_after = whole.1 }
+pub returns-then-not-is_span-clause-value : goal.returns-then-not-is_span-clause-value
+unfolding fill_by_answer filling correct_fits refusing
+returns-then-not-is_span-clause-value c = search rules
 
-pub returns-then-not-is_span : goal.returns-then-not-is_span
-returns-then-not-is_span c =
-    let valid : in_range c.args.p ≡ true = sym c.in_range.ensures ∙ c.if-not-in_range.false in let whole = by_span _ _ _ _ _ _ (valid) (correct_fits_lem _ _ _ c.if-read-p.false c.if-out-p.false) (sym c.is_span.ensures ∙ c.if-not-is_span.true) in
-    record { value = whole.0; out_after = whole.1 }
+pub returns-then-not-is_span-clause-out_after : goal.returns-then-not-is_span-clause-out_after
+unfolding fill_by_leaves filling correct_fits refusing
+returns-then-not-is_span-clause-out_after c = search rules
 
-pub fill_run-requires : goal.fill_run-requires
-fill_run-requires c =
-    let valid : in_range c.args.p ≡ true = sym c.in_range.ensures ∙ c.if-not-in_range.false in let spans : let a = c.args in is_span a.p a.start a.length ≡ true = sym c.is_span.ensures ∙ c.if-not-is_span.false in let z = (span_iff _ _ _).0 (spans) in
-    record { out_len = c.if-out-p.false ∙ sym c.if-read-p.false; size_in_bounds = (rw c.if-read-p.false z.0, omega (arith, z.1, ((in_range_lem _).0 (valid)).r_most)) }
+pub fill_run-requires-clause-out_len : goal.fill_run-requires-clause-out_len
+fill_run-requires-clause-out_len c =
+    let w = (admitted _ _ _ (sym c.admit.ensures ∙ c.in_ok-admit.was)).1 in
+    let k : length c.args.read.now ≡ c.args.p.n = search rules in
+    let l : length c.args.out.now ≡ c.args.p.n = search rules in
+    omega arith
 
-pub returns : goal.returns
-returns c =
-    let valid : in_range c.args.p ≡ true = sym c.in_range.ensures ∙ c.if-not-in_range.false in let spans : let a = c.args in is_span a.p a.start a.length ≡ true = sym c.is_span.ensures ∙ c.if-not-is_span.false in let z = c.fill_run.ensures in let whole = by_rest _ _ _ _ _ _ (valid) (correct_fits_lem _ _ _ c.if-read-p.false c.if-out-p.false) (spans) _ _ z.value z.out_after in
-    record { value = whole.0; out_after = whole.1 }
+pub fill_run-requires-clause-size_in_bounds : goal.fill_run-requires-clause-size_in_bounds
+fill_run-requires-clause-size_in_bounds c =
+    let q = sym c.admit.ensures ∙ c.in_ok-admit.was in
+    let w = (admitted _ _ _ q).1 in
+    let k : length c.args.read.now ≡ c.args.p.n = search rules in
+    let v : InRange c.args.p = admitted_in_range _ _ _ q in
+    let z = (span_iff c.args.p c.args.start c.args.length).0 (sym c.is_span.ensures ∙ c.if-not-is_span.false) in
+    (omega (arith, z.0), omega (arith, z.1, v.r_most))
+
+pub returns-clause-value : goal.returns-clause-value
+unfolding fill_by_answer filling correct_fits refusing
+returns-clause-value c = search rules
+
+pub returns-clause-out_after : goal.returns-clause-out_after
+unfolding fill_by_leaves filling correct_fits refusing
+returns-clause-out_after c = search rules

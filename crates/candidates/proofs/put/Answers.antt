@@ -1,11 +1,6 @@
--- `candidates::put` meets its contract: the two bytes of a pair are set one after the other.
-use native.Mathlib.Omega.{arith}
-use lib.ListN.{length-set}
+-- `candidates::put` meets its contract: the two bytes are put in their place.
 use Rattle.candidates.proofs.Laying.{put_law}
 use Rattle.candidates.proofs.put.Goals as goal
 
-pub bounds-pairs-at-2 : goal.bounds-pairs-at-2
-bounds-pairs-at-2 c = simp length-set (omega (arith, c.requires.0))
-
 pub returns : goal.returns
-returns c = put_law c.args.k c.args.start c.args.size c.args.pairs.now c.requires.0
+returns c = put_law _ _ _ _ _ c.copy_from_slice.ensures.after

@@ -1,60 +1,38 @@
-use mathlib.Core.Path.{◌≡◌, ◌∙◌}
+use mathlib.Core.Path.{sym, ◌∙◌}
+use Prim.Native.Nat.{◌<◌}
 use native.Mathlib.Omega.{arith}
+use lib.ListN.{length}
 use Rattle.candidates.specs.Lengths.{length_at}
-use Rattle.candidates.proofs.Written.{Writing, writing-none, writing_room, writing-length, writing-found, writing_other}
+use Rattle.candidates.proofs.Written.{writing-none, writing_room, writing-found, writing_other}
 use Rattle.candidates.proofs.put_length.Goals as goal
-use Rattle.candidates.proofs.put_length.Goals.{then-lengths-s, else-lengths-s}
+use Rattle.candidates.proofs.put_length.Goals.{then-from-size, else-from-size}
 
 pub loop-s-init : goal.loop-s-init
-loop-s-init c = (omega arith, writing-none (length_at c.args.lengths) c.args.size c.args.k c.args.pairs.now)
-
-pub bounds-lengths-s : goal.bounds-lengths-s
-bounds-lengths-s c = omega (arith, c.loop-s-test.true, c.requires.n_bound.0)
+loop-s-init c = writing-none (length_at c.args.lengths.now) c.args.size c.args.k c.args.pairs.now
 
 pub put-requires : goal.put-requires
 put-requires c =
-    let l = c.loop-s in
-    let m = c.loop-s-test.true in (
-      writing_room (length_at c.args.lengths) c.args.size c.args.k c.args.pairs.now c.args.n c.requires.n_in_bounds l.s l.count l.pairs m l.invariant.1 c.if-lengths-s.true,
-      omega (arith, m, c.requires.n_bound.0),
-      c.requires.n_bound.1,
+    let l = c.loop-s in (
+      writing_room (length_at c.args.lengths.now) c.args.size c.args.k c.args.pairs.now _ c.requires.room l.s l.count l.pairs (omega arith) l.invariant (sym c.from.ensures ∙ c.if-from-size.true),
+      omega arith,
+      omega arith,
     )
 
 pub overflow_add-count : goal.overflow_add-count
 overflow_add-count c =
     let l = c.loop-s in
-    let m = c.loop-s-test.true in
-    let room = writing_room (length_at c.args.lengths) c.args.size c.args.k c.args.pairs.now c.args.n c.requires.n_in_bounds l.s l.count l.pairs m l.invariant.1 c.if-lengths-s.true in
-    let same = writing-length (length_at c.args.lengths) c.args.size c.args.k c.args.pairs.now c.args.n c.requires.n_in_bounds l.s l.count l.pairs l.invariant.0 l.invariant.1 in
-    omega (arith, room, same, c.ranges)
-
-pub overflow_add-s : goal.overflow_add-s
-overflow_add-s c = omega (arith, c.loop-s-test.true, c.requires.n_bound.0)
-
-pub loop-s-smaller : goal.loop-s-smaller
-loop-s-smaller c = omega (arith, c.loop-s-test.true)
+    let room = writing_room (length_at c.args.lengths.now) c.args.size c.args.k c.args.pairs.now _ c.requires.room l.s l.count l.pairs (omega arith) l.invariant (sym c.from.ensures ∙ c.if-from-size.true) in
+    omega (arith, room)
 
 pub loop-s-preserved : goal.loop-s-preserved
 loop-s-preserved c =
     let l = c.loop-s in
-    let m = c.loop-s-test.true in (
-      omega (arith, m),
-      elim c.if-lengths-s.branch [
-        | then-lengths-s w ↦
-            let found = writing-found (length_at c.args.lengths) c.args.size c.args.k c.args.pairs.now c.args.n c.requires.n_in_bounds l.s l.count l.pairs m l.invariant.1 w.put.new.pairs w.if-lengths-s.true w.put.ensures in
-            record { counted = w.count-is ∙ found.counted; written = w.pairs-is ∙ found.written }
-        | else-lengths-s w ↦
-            let other = writing_other (length_at c.args.lengths) c.args.size c.args.k c.args.pairs.now c.args.n c.requires.n_in_bounds l.s l.count l.pairs m l.invariant.1 w.if-lengths-s.false in
-            record { counted = w.count-is ∙ other.counted; written = w.pairs-is ∙ other.written }
-      ],
-    )
-
-pub shape_of-pairs : goal.shape_of-pairs
-shape_of-pairs c =
-    let l = c.loop-s in
-    writing-length (length_at c.args.lengths) c.args.size c.args.k c.args.pairs.now c.args.n c.requires.n_in_bounds l.s l.count l.pairs l.invariant.0 l.invariant.1
-
-pub returns : goal.returns
-returns c =
-    let l = c.loop-s in let e : l.s ≡ c.args.n = omega (arith, l.invariant.0, c.loop-s-test.false) in let w : Writing (length_at c.args.lengths) c.args.size c.args.k c.args.pairs.now c.args.n l.count l.pairs = rw e at l.invariant.1 in
-    record { value = w.counted; pairs_after = w.written }
+    let m : l.s < length c.args.lengths.now = omega arith in
+    elim c.if-from-size.branch [
+      | then-from-size w ↦
+          let found = writing-found (length_at c.args.lengths.now) c.args.size c.args.k c.args.pairs.now _ c.requires.room l.s l.count l.pairs m l.invariant w.put.new.pairs (sym c.from.ensures ∙ w.if-from-size.true) w.put.ensures in
+          record { counted = w.count-is ∙ found.counted; written = w.pairs-is ∙ found.written }
+      | else-from-size w ↦
+          let other = writing_other (length_at c.args.lengths.now) c.args.size c.args.k c.args.pairs.now _ c.requires.room l.s l.count l.pairs m l.invariant (λ e. w.if-from-size.false (c.from.ensures ∙ e)) in
+          record { counted = w.count-is ∙ other.counted; written = w.pairs-is ∙ other.written }
+    ]

@@ -1,33 +1,24 @@
-use mathlib.Core.Path.{refl, sym, ◌∙◌}
-use native.Mathlib.Omega.{arith}
-use Rattle.erasure.proofs.Laying.{word_next, word_end}
+-- A value more is laid at each step, until no place or no value is left.
+use mathlib.Core.Path.{◌≡◌, ap₂}
+use mathlib.Core.List.{List}
+use mathlib.Core.Logic.{⊎_elim, inl, inr}
+use Prim.Native.Nat.{ℕ}
+use Rattle.words.specs.Word.{bytes_from}
+use Rattle.products.proofs.Values.{word_is}
+use Rattle.erasure.specs.Filling.{laid_at}
+use Rattle.erasure.proofs.Laying.{lay_next, lay_done}
 use Rattle.erasure.proofs.add_values.Goals as goal
 
-pub loop-i-init : goal.loop-i-init
-loop-i-init c = (omega arith, refl, refl)
+pub loop-place-init : goal.loop-place-init
+loop-place-init c =
+    let a = c.into_iter-place-iterator.result.a.rest.now in
+    let b = c.into_iter-place-iterator.result.b.rest.now in
+    let v : b ≡ bytes_from 8 0 c.args.v = cc (word_is c.args.v) in
+    let p : a ≡ c.args.places.now = cc in
+    ap₂ (λ (E vs : List ℕ). laid_at E vs c.args.cells.now) p v
 
-pub bounds-places-i : goal.bounds-places-i
-bounds-places-i c = omega arith
-
-pub overflow_add-i : goal.overflow_add-i
-overflow_add-i c = omega arith
-
-pub loop-i-smaller : goal.loop-i-smaller
-loop-i-smaller c = omega arith
-
-pub loop-i-preserved : goal.loop-i-preserved
-loop-i-preserved c =
-    let l = c.loop-i in
-    let a = c.args in (
-      omega arith,
-      c.add_at.auto.cells ∙ l.invariant.1,
-      word_next a.places.now l.cells _ _ a.v _ l.i (omega arith) (omega arith) l.invariant.2 c.cell_at.ensures c.add_at.ensures,
-    )
-
-pub shape_of-cells : goal.shape_of-cells
-shape_of-cells c = c.loop-i.invariant.1
+pub loop-place-preserved : goal.loop-place-preserved
+loop-place-preserved c = lay_next _ _ _ _ _ _ _ _ _ c.in-Some.ensures.steps.0 c.in-Some.ensures.steps.1 c.add_at.ensures c.loop-place.invariant
 
 pub returns : goal.returns
-returns c =
-    let l = c.loop-i in
-    sym (word_end _ l.cells _ l.i _ c.least-n.ensures (omega arith) l.invariant.0) ∙ l.invariant.2
+returns c = lay_done _ _ _ _ (⊎_elim (λ u. inl u.1.0) (λ u. inr u.1.0) c.in-None.ensures.steps) c.loop-place.invariant

@@ -1,14 +1,7 @@
--- The invariant: the register has the product for the points from i on.
-use mathlib.Core.Path.{◌≡◌}
-use Prim.Native.Nat.{◌≤◌}
-use lib.ListN.{length, drop}
-use Rattle.words.specs.Cells.{pad_to}
-use Rattle.register.specs.Words.{cells}
-use Rattle.erasure.specs.Filling.{rooted_at}
+-- The invariant: the register has the product for the points behind.
+use Rattle.products.proofs.Backwards.{Behind}
+use Rattle.erasure.proofs.Registers.{Rooted}
 use Rattle.erasure.proofs.rooted_of.Given as goal
 
-abbrev pub invariant-loop-i : goal.invariant-loop-i
-invariant-loop-i l = (l.i ≤ length l.points) × (cells l.p ≡ pad_to 64 (rooted_at (drop l.i l.points)))
-
-abbrev pub decreases-loop-i : goal.decreases-loop-i
-decreases-loop-i l = l.i
+abbrev pub invariant-loop-x : goal.invariant-loop-x
+invariant-loop-x l = Behind l.points l.x-iterator.iter.rest.now (Rooted l.p)

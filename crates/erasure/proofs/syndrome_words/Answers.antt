@@ -1,26 +1,24 @@
-use mathlib.Core.Path.{refl, ◌∙◌}
+use mathlib.Core.Path.{◌≡◌, ap, ◌∙◌}
 use native.Mathlib.Omega.{arith}
-use lib.ListN.{length-set}
+use lib.ListN.{length, replicate, get_or-append}
+use lib.Seq.{length-take-le}
+use Rattle.words.specs.Word.{bytes_from}
 use Rattle.erasure.proofs.Words.{points-first, points-next, words_more}
 use Rattle.erasure.proofs.syndrome_words.Goals as goal
 
-pub loop-k-init : goal.loop-k-init
-loop-k-init c = (refl, points-first _ _ c.points_from-x.ensures, λ j h. absurd (omega arith))
+pub loop-word-init : goal.loop-word-init
+loop-word-init c = record { here = points-first _ _ c.points_from-x.ensures; values = λ j h. absurd (omega arith) }
 
-pub offset_bounds-w-k : goal.offset_bounds-w-k
-offset_bounds-w-k c = omega arith
-
-pub bounds-w-k : goal.bounds-w-k
-bounds-w-k c = omega arith
-
-pub overflow_add-k : goal.overflow_add-k
-overflow_add-k c = omega arith
-
-pub loop-k-smaller : goal.loop-k-smaller
-loop-k-smaller c = omega arith
-
-pub loop-k-preserved : goal.loop-k-preserved
-loop-k-preserved c = let l = c.loop-k in (length-set l.w l.k _ ∙ l.invariant.0, points-next _ l.k l.x _ l.invariant.1 c.next_points-x.ensures, words_more _ _ l.w l.k _ l.x (omega arith) l.invariant.1 c.values_at.ensures l.invariant.2)
+pub loop-word-preserved : goal.loop-word-preserved
+loop-word-preserved c =
+    let l = c.loop-word in
+    record {
+      here = points-next _ l.word-index l.x _ l.invariant.here c.next_points-x.ensures;
+      values = words_more _ _ l.word-items l.word-index _ l.x (omega arith) l.invariant.here c.values_at.ensures l.invariant.values;
+    }
 
 pub returns : goal.returns
-returns c = λ k h. c.loop-k.invariant.2 k (omega arith)
+returns c =
+    let l = c.loop-word in λ k h.
+    let n : length l.word-items ≡ c.args.count = c.loop-word.auto.word-items ∙ length-take-le c.args.count (replicate 8 0) (omega (arith, c.requires)) in
+    ap (bytes_from 8 0) (get_or-append l.word-items _ 0 k (omega arith)) ∙ l.invariant.values k (omega arith)

@@ -1,13 +1,9 @@
 -- The invariant: i syndromes are out, with zeros after them.
 use mathlib.Core.Path.{◌≡◌}
-use Prim.Native.Nat.{◌-◌, ◌≤◌}
 use lib.ListN.{take}
 use Rattle.words.specs.Cells.{pad_to}
 use Rattle.erasure.specs.Erasure.{syndromes}
 use Rattle.erasure.proofs.syndromes.Given as goal
 
 abbrev pub invariant-loop-i : goal.invariant-loop-i
-invariant-loop-i l = (l.i ≤ l.n) × (l.out ≡ pad_to 64 (take l.i (syndromes l.b l.n l.rest)))
-
-abbrev pub decreases-loop-i : goal.decreases-loop-i
-decreases-loop-i l = l.n - l.i
+invariant-loop-i l = l.out ≡ pad_to 64 (take l.i (syndromes l.b l.n l.rest))

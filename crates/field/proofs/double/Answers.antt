@@ -6,7 +6,7 @@ use Rattle.field.proofs.Turns.{double_fold}
 use Rattle.field.proofs.double.Goals as goal
 
 pub overflow_cast-result : goal.overflow_cast-result
-overflow_cast-result c = omega (arith, double_fold c.args.x (omega arith), double-lt c.args.x)
+overflow_cast-result c = rw c.from-up.ensures (omega (arith, double_fold c.args.x (omega arith), double-lt c.args.x))
 
 pub returns : goal.returns
-returns c = double_fold c.args.x (omega arith)
+returns c = rw c.from-up.ensures (double_fold c.args.x (omega arith))

@@ -3,4 +3,4 @@ use Rattle.std.proofs.Common.{◌<◌}
 use Rattle.field_products.proofs.checksum.Given as goal
 
 abbrev pub invariant-loop-y : goal.invariant-loop-y
-invariant-loop-y l = l.sum < 65521
+invariant-loop-y g l = l.sum < 65521

@@ -1,27 +1,23 @@
--- Each way out is a case of the definition: fewer than five bytes, a profile out of range, a sheet that is read.
-use mathlib.Core.Path.{sym, ap, ◌∙◌}
-use Prim.Native.Nat.{◌-◌}
-use lib.ListN.{length, take, drop}
-use Rattle.profile.specs.Profile.{in_range}
+-- Either way out is a case of the definition: there is no profile in range, or a sheet is read.
+use Rattle.std.proofs.Common.{sym, ap, ◌∙◌, ℕ, ◌-◌, length, take, drop}
 use Rattle.profile.specs.declared.Profile.{Profile}
-use Rattle.profile.proofs.Ranges.{in_range_lem}
+use Rattle.listing_text.specs.Text.{refusal_text}
 use Rattle.listing.specs.Listing.{sheet_text}
-use Rattle.listing.proofs.Cases.{listed-short, listed_bad, listed-sheet}
+use Rattle.listing.proofs.Cases.{profile_accepted, profile_refused, listed-sheet}
 use Rattle.listing.proofs.list.Goals as goal
 
-pub returns-then-input-lt5 : goal.returns-then-input-lt5
-returns-then-input-lt5 c = rw (← listed-short c.args.input.now c.if-input-lt5.true) c.write_refusal.ensures
-
-pub returns-then-not-in_range : goal.returns-then-not-in_range
-returns-then-not-in_range c =
-    let e = ap in_range (sym c.profile_of-p.ensures) ∙ sym c.if-not-in_range.ensures in
-    rw (← listed_bad c.args.input.now c.if-input-lt5.false e) c.write_refusal-then-not-in_range.ensures
-
 pub list_sheet-requires : goal.list_sheet-requires
-list_sheet-requires c = (in_range_lem _).0 (sym c.if-not-in_range.ensures)
+list_sheet-requires c = (profile_accepted _ _ (sym c.profile_of.ensures ∙ c.in-Ok.is)).1
 
-pub returns : goal.returns
-returns c =
+pub returns-in-Ok : goal.returns-in-Ok
+returns-in-Ok c =
     let s = c.args.input.now in
-    let e = ap (λ (p : Profile). sheet_text p (take (length s - 5) (drop 5 s))) c.profile_of-p.ensures ∙ listed-sheet s c.if-input-lt5.false in
+    let a = profile_accepted _ _ (sym c.profile_of.ensures ∙ c.in-Ok.is) in
+    let e = ap (λ (p : Profile). sheet_text p (take (length s - 5) (drop 5 s))) (sym a.2) ∙ listed-sheet s a.0 in
     rw (← e) c.list_sheet.ensures
+
+pub returns-in-Err : goal.returns-in-Err
+returns-in-Err c =
+    let e = ap (λ (n : ℕ). refusal_text n c.place.result) c.number.ensures ∙ ap (refusal_text _) c.place.ensures
+    ∙ profile_refused c.args.input.now _ (sym c.profile_of.ensures ∙ c.in-Err.is) in
+    rw (← e) c.write_refusal.ensures

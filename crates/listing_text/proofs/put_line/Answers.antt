@@ -1,11 +1,11 @@
 -- Four numbers, each with the byte after it.
 use Rattle.listing_text.specs.Text.{line_text}
-use Rattle.listing_text.proofs.Fill.{put_then}
+use Rattle.listing_text.proofs.Puts.{puts_then}
 use Rattle.listing_text.proofs.put_line.Goals as goal
 
 pub returns : goal.returns
 unfolding line_text
 returns c =
-    put_then _ _ _ _ _ c.put_field-a.ensures
-    (put_then _ _ _ _ _ c.put_field-b.ensures
-    (put_then _ _ _ _ _ c.put_field-c.ensures c.put_field.ensures))
+    puts_then (rw c.from.ensures at c.put_field.ensures)
+    (puts_then (rw c.from-2.ensures at c.put_field-2.ensures)
+    (puts_then (rw c.from-3.ensures at c.put_field-3.ensures) (rw c.from-4.ensures at c.put_field-4.ensures)))

@@ -1,16 +1,17 @@
--- What is left to write are the lines from line `i` on; the measure is their number.
-use Prim.Native.Nat.{◌+◌, ◌*◌, ◌-◌, ◌≤◌}
-use mathlib.Core.Path.{◌≡◌}
-use lib.ListN.{length, drop}
+-- What is put and the lines that the iterator has left are the text.
+use Rattle.std.proofs.Common.{◌≡◌, ℕ, ◌/◌, List, ◌++◌, length}
+use Rattle.std.specs.Slice.Iter.{chunks_exact_rest, chunks_exact_size}
 use Rattle.listing_text.specs.Text.{lines_text}
-use Rattle.listing_text.specs.Buffer.{buffer, put_all}
+use Rattle.listing_text.specs.Puts.{Puts}
 use Rattle.listing_text.proofs.put_lines.Given as goal
 
-abbrev pub invariant-loop-i : goal.invariant-loop-i
-invariant-loop-i l =
-    (l.i ≤ l.count) × (length l.out ≡ length l.initial.out)
-    × (put_all (lines_text l.plot l.count (drop l.from l.payload)) (buffer l.initial.out l.at)
-    ≡ put_all (lines_text l.plot (l.count - l.i) (drop (l.from + l.i * 3) l.payload)) (buffer l.out l.end))
-
-abbrev pub decreases-loop-i : goal.decreases-loop-i
-decreases-loop-i l = l.count - l.i
+abbrev pub invariant-loop-bytes : goal.invariant-loop-bytes
+invariant-loop-bytes l =
+    let rest = chunks_exact_rest l.bytes-iterator in record {
+      can : (goal.iterator-loop-bytes).can_next l.bytes-iterator;
+      finite : (goal.iterator-loop-bytes).is_finite l.bytes-iterator;
+      three : chunks_exact_size l.bytes-iterator ≡ 3;
+      done : List ℕ;
+      puts : Puts done l.initial.w l.w;
+      text : lines_text l.plot (length l.lines / 3) l.lines ≡ done ++ lines_text l.plot (length rest / 3) rest;
+    }

@@ -1,17 +1,19 @@
 -- The word, the number and the place in turn; then the buffer as filled from its first byte on.
-use mathlib.Core.Path.{◌≡◌}
+use Rattle.std.proofs.Common.{◌≡◌, refl, rules}
 use Rattle.listing_text.specs.Text.{refusal_text}
-use Rattle.listing_text.specs.Buffer.{buffer, put_all}
-use Rattle.listing_text.proofs.Fill.{put_then, fill_length, fill_bytes}
+use Rattle.listing_text.specs.Buffer.{text_in}
+use Rattle.listing_text.proofs.Puts.{puts_then, puts_length, puts_bytes}
 use Rattle.listing_text.proofs.write_refusal.Goals as goal
 
-pub returns : goal.returns
+pub returns-clause-value : goal.returns-clause-value
 unfolding refusal_text
-returns c =
-    let a = c.args in
-    let pieces : buffer c.put_field.new.out c.put_field.result ≡ put_all (refusal_text a.number a.place) (buffer a.out.now 0) =
-    put_then _ _ _ _ _ c.put_text-a.ensures (put_then _ _ _ _ _ c.put_field-b.ensures c.put_field.ensures) in
-    record {
-      value = fill_length (refusal_text a.number a.place) a.out.now _ _ pieces;
-      out_after = fill_bytes (refusal_text a.number a.place) a.out.now _ _ pieces;
-    }
+returns-clause-value c =
+    puts_length (puts_then c.put_text.ensures (puts_then (rw c.from.ensures at c.put_field.ensures) c.put_field-2.ensures)) refl
+
+pub returns-clause-out_after : goal.returns-clause-out_after
+unfolding refusal_text
+returns-clause-out_after c =
+    let p = puts_then c.put_text.ensures (puts_then (rw c.from.ensures at c.put_field.ensures) c.put_field-2.ensures) in
+    let e : c.put_field-2.new.self.out.now ≡ text_in (refusal_text c.args.number c.args.place) c.args.out.now = puts_bytes p refl in
+    let n = p.same in
+    search (rules, e, n)

@@ -12,25 +12,18 @@ returns-then-d-eq0 c =
     let a = c.args in
     (turn-none (recursion_of a.k) a.n _ _ _ (cells-length _) c.shift_up-before.ensures c.dot-d.ensures c.if-d-eq0.true, omega (arith, c.requires))
 
-pub overflow_sub-n : goal.overflow_sub-n
-overflow_sub-n c = omega (arith, c.requires)
-
-pub returns-then-n-size : goal.returns-then-n-size
-returns-then-n-size c =
+pub returns-then-n-k : goal.returns-then-n-k
+returns-then-n-k c =
     let a = c.args in (
       turn_long (recursion_of a.k) a.n _ _ _ (cells-length _) c.shift_up-before.ensures c.dot-d.ensures _ c.if-d-eq0.false (omega arith)
-          (c.add-sum.ensures ∙ ap₂ padd c.scale.ensures c.scale-2.ensures),
+          (c.add-connection.ensures ∙ ap₂ padd c.scale.ensures c.scale-2.ensures),
       omega (arith, c.requires),
     )
-
--- GONE overflow-sub-t13
--- sub-t13 : tie.Need-overflow-sub-t13
--- sub-t13 c = omega (arith, c.before.before.before.before.before.before.before.before.requires)
 
 pub returns : goal.returns
 returns c =
     let a = c.args in (
       turn_grown (recursion_of a.k) a.n _ _ _ (cells-length _) c.shift_up-before.ensures c.dot-d.ensures _ c.if-d-eq0.false (omega arith)
-          (c.add-sum.ensures ∙ ap₂ padd c.scale.ensures c.scale-2.ensures),
+          (c.add-connection.ensures ∙ ap₂ padd c.scale.ensures c.scale-2.ensures),
       omega arith,
     )

@@ -1,44 +1,33 @@
-use mathlib.Core.Path.{sym}
-use mathlib.Core.List.{List}
-use Prim.Native.Nat.{ℕ, ◌<◌}
+-- Each turn reads one syndrome more; the first 64 are all that count.
+use mathlib.Core.Path.{refl, ap, ◌∙◌}
 use native.Mathlib.Omega.{arith}
-use lib.ListN.{length, take, length-take}
-use lib.Seq.{get_or-take}
 use Rattle.register.proofs.Cells.{cells-length}
+use Rattle.erasure.proofs.Words.{take_min}
+use Rattle.locator.specs.Locator.{massey}
 use Rattle.locator.proofs.States.{start-size, reading-none, reading-more, reading-all, reading-left}
 use Rattle.locator.proofs.recursion_over.Goals as goal
 
 pub loop-i-init : goal.loop-i-init
-loop-i-init c = (omega arith, start-size _ c.first_state-k.ensures, reading-none _ _ _ c.blank-read.ensures c.first_state-k.ensures)
+loop-i-init c =
+    let z = start-size _ c.first_state-k.ensures in
+    record { size = omega arith; small = omega arith; reading = reading-none _ _ _ c.blank-read.ensures c.first_state-k.ensures }
 
-pub returns-then-limit-k : goal.returns-then-limit-k
-returns-then-limit-k c = reading-left _ _ _ _ _ c.if-limit-k.true c.loop-i.invariant.2
-
-pub bounds-syndromes-i : goal.bounds-syndromes-i
-bounds-syndromes-i c = omega (arith, c.least-n.ensures)
-
-pub overflow_add-i : goal.overflow_add-i
-overflow_add-i c = omega arith
-
-pub next_state-next-requires : goal.next_state-next-requires
-next_state-next-requires c = omega arith
-
-pub loop-i-smaller : goal.loop-i-smaller
-loop-i-smaller c = omega arith
+pub returns-then-is_above : goal.returns-then-is_above
+returns-then-is_above c =
+    let l = c.loop-i in
+    rw (← take_min _ 64 c.args.syndromes.now c.min.ensures)
+    (reading-left _ _ _ _ _ c.if-is_above.true (reading-more _ _ _ l.i _ _ _ (omega arith) refl (cells-length _) c.push_bottom-read.ensures c.next_state-k.ensures.0 l.invariant.reading))
 
 pub loop-i-preserved : goal.loop-i-preserved
 loop-i-preserved c =
     let l = c.loop-i in
-    let s : List ℕ = c.args.syndromes.now in
-    let n = c.least-n.ensures in
-    let h : l.i < length (take 64 s) = omega (arith, length-take 64 s, n) in (
-      omega arith,
-      c.next_state-next.ensures.1,
-      reading-more (take 64 s) _ _ l.i _ _ _ h (sym (get_or-take 64 s l.i 0 (omega (arith, length-take 64 s)))) (cells-length _) c.push_bottom-more.ensures c.next_state-next.ensures.0 l.invariant.2,
-    )
+    record {
+      size = c.next_state-k.ensures.1;
+      small = c.if-is_above.false;
+      reading = reading-more _ _ _ l.i _ _ _ (omega arith) refl (cells-length _) c.push_bottom-read.ensures c.next_state-k.ensures.0 l.invariant.reading;
+    }
 
 pub returns : goal.returns
 returns c =
     let l = c.loop-i in
-    let s : List ℕ = c.args.syndromes.now in
-    reading-all (take 64 s) _ l.i _ _ (omega (arith, length-take 64 s, c.least-n.ensures)) l.invariant.2
+    (l.invariant.small, reading-all _ _ l.i _ (omega arith) l.invariant.reading ∙ ap (massey 64) (take_min _ 64 c.args.syndromes.now c.min.ensures))

@@ -1,21 +1,17 @@
 -- What is located lies within the payload; the part begins there, or is empty and begins where the payload does.
 use native.Mathlib.Omega.{arith}
-use mathlib.Core.Path.{refl, sym, ◌∙◌}
-use Rattle.plot.proofs.Entries.{located-within, part-found, part-refused, begins_found, begins_refused}
+use mathlib.Core.Path.{sym, ◌∙◌}
+use Rattle.plot.proofs.Entries.{located-within, part-found, part-refused}
 use Rattle.plot.proofs.ask.Goals as goal
 
 pub overflow_add-result : goal.overflow_add-result
-overflow_add-result c = omega (arith, located-within _ _ _ _ (sym c.locate.ensures ∙ c.in-At.is))
+overflow_add-result c = omega (arith, located-within _ _ _ (sym c.locate.ensures ∙ c.in-Ok.is))
 
 pub slice_bounds-result-end : goal.slice_bounds-result-end
-slice_bounds-result-end c = omega (arith, located-within _ _ _ _ (sym c.locate.ensures ∙ c.in-At.is))
+slice_bounds-result-end c = omega (arith, located-within _ _ _ (sym c.locate.ensures ∙ c.in-Ok.is))
 
-pub returns-in-At : goal.returns-in-At
-returns-in-At c =
-    let e = sym c.locate.ensures ∙ c.in-At.is in
-    record { result_value = part-found _ _ _ _ e; ref_ptr_value = (refl, begins_found _ _ _ _ e) }
+pub returns-in-Ok-clause-result_value : goal.returns-in-Ok-clause-result_value
+returns-in-Ok-clause-result_value c = part-found _ _ _ (sym c.locate.ensures ∙ c.in-Ok.is)
 
-pub returns-in-Refused : goal.returns-in-Refused
-returns-in-Refused c =
-    let e = sym c.locate.ensures ∙ c.in-Refused.is in
-    record { result_value = part-refused _ c.args.payload.now _ e; ref_ptr_value = (refl, begins_refused _ _ _ e) }
+pub returns-in-Err-clause-result_value : goal.returns-in-Err-clause-result_value
+returns-in-Err-clause-result_value c = part-refused _ c.args.payload.now _ (sym c.locate.ensures ∙ c.in-Err.is)

@@ -8,10 +8,10 @@ use Rattle.plot.specs.Grammar.{Plots, read_from}
 use Rattle.plot.specs.Answers.{seek, located}
 use Rattle.plot.proofs.search.Given as goal
 
-abbrev pub invariant-loop-next : goal.invariant-loop-next
-invariant-loop-next l =
+abbrev pub invariant-loop-found : goal.invariant-loop-found
+invariant-loop-found l =
     (f : ℕ) × (ps : List Plot) × (end : ℕ) × (length l.payload ≤ l.c.at + f) × (read_from f l.c.at l.c.last (drop l.c.at l.payload) ≡ Plots ps end)
     × (located l.plot l.payload ≡ seek l.plot l.c.at ps)
 
-abbrev pub decreases-loop-next : goal.decreases-loop-next
-decreases-loop-next l = length l.payload - l.c.at
+abbrev pub decreases-loop-found : goal.decreases-loop-found
+decreases-loop-found l = length l.payload - l.c.at

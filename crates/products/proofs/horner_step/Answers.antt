@@ -3,4 +3,4 @@ use Rattle.words.proofs.Words.{word_sum}
 use Rattle.products.proofs.horner_step.Goals as goal
 
 pub returns : goal.returns
-returns c = λ x e. word_sum _ _ c.spread.ensures (c.times_doubles.ensures x e)
+returns c = word_sum _ _ c.spread.ensures c.times_doubles.ensures

@@ -9,9 +9,6 @@ use Rattle.products.proofs.word_power.Goals as goal
 pub loop-left-init : goal.loop-left-init
 loop-left-init c = power-first _ _
 
-pub loop-left-smaller : goal.loop-left-smaller
-loop-left-smaller c = omega arith
-
 pub loop-left-preserved : goal.loop-left-preserved
 loop-left-preserved c = power-more _ _ _ _ _ _ _ c.loop-left.invariant c.power_turn-result.ensures c.word_times-square.ensures
 

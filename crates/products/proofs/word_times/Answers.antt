@@ -6,4 +6,4 @@ pub returns-then-a-eq0 : goal.returns-then-a-eq0
 returns-then-a-eq0 c = blank_times _ _ c.if-a-eq0.true
 
 pub returns : goal.returns
-returns c = c.times_doubles.ensures _ c.doubles_of_word.ensures
+returns c = rw (← c.of.ensures) c.times_doubles.ensures

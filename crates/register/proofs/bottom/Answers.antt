@@ -1,7 +1,6 @@
 -- The lowest eight bits of the lowest word.
-use native.Mathlib.Omega.{arith}
 use Rattle.register.proofs.Cells.{cells_bottom}
 use Rattle.register.proofs.bottom.Goals as goal
 
 pub returns : goal.returns
-returns c = (cells_bottom _, omega arith)
+returns c = cells_bottom _

@@ -4,4 +4,4 @@ use Rattle.register.proofs.Cells.{feedback_is}
 use Rattle.register.proofs.feedback.Goals as goal
 
 pub returns : goal.returns
-returns c = feedback_is _ _ (omega arith) (omega arith)
+returns c = feedback_is c.args.x c.args.c (omega arith)

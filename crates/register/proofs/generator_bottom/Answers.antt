@@ -6,11 +6,8 @@ use Rattle.register.proofs.Cells.{cells-length}
 use Rattle.register.proofs.Generator.{bottom_law}
 use Rattle.register.proofs.generator_bottom.Goals as goal
 
-pub overflow_cast-c : goal.overflow_cast-c
-overflow_cast-c c = omega (arith, c.bottom-c.ensures.1)
-
 pub returns : goal.returns
 returns c =
     let a = c.args in
-    bottom_law (min a.r 64) _ _ (cells a.g) _ _ _ _ (omega arith) (cells-length a.g) c.lowered.ensures c.bottom-c.ensures.0
+    bottom_law (min a.r 64) _ _ (cells a.g) _ _ _ _ (omega arith) (cells-length a.g) c.lowered.ensures c.bottom-c.ensures
     c.inverse.ensures c.push_top.ensures c.lowered-2.ensures c.scale.ensures

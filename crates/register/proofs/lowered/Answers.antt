@@ -5,13 +5,9 @@ use lib.ListN.{drop}
 use Rattle.words.specs.Cells.{pad_to}
 use Rattle.register.specs.Words.{cells}
 use Rattle.register.proofs.Moves.{lowered_law}
-use native.Mathlib.Omega.{arith}
 use Rattle.register.proofs.lowered.Goals as goal
-
-pub overflow_sub-n : goal.overflow_sub-n
-overflow_sub-n c = omega arith
 
 pub returns : goal.returns
 returns c =
-    lowered_law c.args.x _ _ (64 - c.clamp-n.result) c.lower_words.ensures c.lower_cells.ensures
-    ∙ ap (λ (k : ℕ). pad_to 64 (drop (64 - k) (cells c.args.x))) c.clamp-n.ensures
+    lowered_law c.args.x _ _ (64 - c.min-n.result) c.lower_words.ensures c.lower_cells.ensures
+    ∙ ap (λ (k : ℕ). pad_to 64 (drop (64 - k) (cells c.args.x))) c.min-n.ensures

@@ -1,9 +1,17 @@
 -- Word by word; the words meet at the cell that passes down.
 use native.Mathlib.Omega.{arith}
+use Rattle.std.proofs.Common.{rules, ◌≡◌}
+use Rattle.code.specs.Poly.{padd, pscale}
+use Rattle.words.specs.Word.{byte, bytes_from}
+use Rattle.words.specs.Cells.{shift_down}
 use Rattle.words.proofs.Words.{bottom_cell}
-use Rattle.words.proofs.Bits.{word-rooted}
+use Rattle.register.specs.Words.{EachWithAbove}
 use Rattle.register.proofs.Cells.{cells-rooted}
 use Rattle.register.proofs.with_root.Goals as goal
 
 pub returns : goal.returns
-returns c = λ a d. cells-rooted _ _ a _ 1 (bottom_cell 1 _ (omega arith) c.at_bottom.ensures) (word-rooted a _ d _ _ _ c.word_root.ensures) (word-rooted a _ d _ _ _ c.word_root-2.ensures) (word-rooted a _ d _ _ _ c.word_root-3.ensures) (word-rooted a _ d _ _ _ c.word_root-4.ensures) (word-rooted a _ d _ _ _ c.word_root-5.ensures) (word-rooted a _ d _ _ _ c.word_root-6.ensures) (word-rooted a _ d _ _ _ c.word_root-7.ensures) (word-rooted a _ d _ _ _ c.word_root-8.ensures)
+returns c =
+    let a = c.args.d.now.c0 in
+    let h : EachWithAbove (λ w above r. bytes_from 8 0 r ≡ padd (bytes_from 8 0 w) (pscale a (shift_down (bytes_from 8 0 w) (byte above 0)))) c.args.g c.at_bottom.result c.map_with_above.result
+    = search rules in
+    cells-rooted c.args.g c.map_with_above.result a c.at_bottom.result 1 (bottom_cell 1 _ (omega arith) c.at_bottom.ensures) h

@@ -1,17 +1,17 @@
--- The n cells that are lent of the local array have room in its 255.
-use mathlib.Core.Path.{sym}
+-- The block's entry, with profile and lengths right, writes the block, and its cells are laid.
+use Rattle.std.proofs.Common.{◌≡◌, length, sym, ◌∙◌}
+use Rattle.block.specs.Block.{encode}
+use Rattle.block.proofs.Answers.{block_written}
 use Rattle.sheet.proofs.Lists.{zeros, lent}
 use Rattle.sheet.proofs.write_block.Goals as goal
 
-pub slice_bounds-write_with-end : goal.slice_bounds-write_with-end
-unfolding zeros
-slice_bounds-write_with-end c = sym (lent _ c.requires.in_range.n_most)
-
-pub write_with-requires : goal.write_with-requires
-unfolding zeros
-write_with-requires c =
-    let h = c.requires in
-    record { in_range = h.in_range; d_lt_depth = (h.d_lt_depth.0, h.d_lt_depth.1, h.d_lt_depth.2, lent _ h.in_range.n_most) }
-
 pub returns : goal.returns
-returns c = c.write_with.ensures
+unfolding zeros
+returns c =
+    let a = c.args in
+    let h = c.requires in
+    let w = c.write in
+    let n = lent a.p.n h.in_range.n_most in
+    let q : w.new.cells ≡ encode a.p.b a.p.r a.message.now = w.ensures.cells_after ∙ block_written a.p h.in_range a.message.now _ h.d_lt_depth.1 n in
+    let z : length w.new.cells ≡ a.p.n = w.auto.cells ∙ n in
+    rw (sym q, sym z) c.scatter.ensures

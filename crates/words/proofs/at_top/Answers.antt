@@ -4,4 +4,4 @@ use Rattle.words.proofs.Linear.{shl-byte}
 use Rattle.words.proofs.at_top.Goals as goal
 
 pub returns : goal.returns
-returns c = shl-byte c.args.c (omega arith)
+returns c = rw c.from.ensures (shl-byte c.args.c (omega arith))

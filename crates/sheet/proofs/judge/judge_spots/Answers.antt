@@ -4,4 +4,4 @@ use Rattle.sheet.proofs.judge.judge_spots.Goals as goal
 
 pub returns : goal.returns
 returns c =
-    judged-spots c.args.p c.requires.in_range c.args.read.now c.requires.read_len.0 _ c.requires.read_len.1 _ c.correct-verdict.ensures.value c.blank.ensures
+    judged-spots c.args.p c.requires.in_range c.args.read.now c.requires.room.block_count _ c.requires.room.word_count _ c.correct-verdict.ensures.value c.blank.ensures

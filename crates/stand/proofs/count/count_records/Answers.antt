@@ -1,114 +1,133 @@
-use Prim.Native.Nat.{ℕ, ◌+◌, ◌*◌, ◌-◌, ◌≤◌}
+use Prim.Native.Nat.{ℕ, ◌+◌, ◌*◌, ◌-◌, ◌/◌, ◌≤◌}
 use native.Mathlib.Omega.{arith}
 use mathlib.Core.Path.{◌≡◌, refl, sym, ap, subst, ◌∙◌}
 use mathlib.Core.List.{List}
+use Rattle.std.specs.Prelude.{Some, None, Ok, Err}
+use Rattle.std.proofs.Common.{rules}
 use lib.ListN.{length, drop, length-drop}
+use Rattle.plot.specs.declared.Record.{Record}
 use Rattle.plot.specs.Layout.{Plot, tallies}
-use Rattle.plot.specs.Grammar.{read_from}
+use Rattle.plot.specs.Grammar.{record_at, read_from}
 use Rattle.plot.specs.Answers.{checked_of}
-use Rattle.plot.proofs.Cases.{bounds, read-end, reading-short, checked_stopped, checked-plots, checked-onto}
+use Rattle.plot.proofs.Cases.{Bounds, bounds, lines_long, read-end, reading-short, checked_stopped, checked-plots, checked-onto}
 use Rattle.plot.proofs.Records.{holding, ends, stops, holding-reads}
-use Rattle.plot.proofs.Accepts.{not_stopped}
-use Rattle.plot.proofs.Entries.{reading-reads, no_plots, go, go_reads}
+use Rattle.plot.proofs.Entries.{reading-reads, checked_accepted, checked_refused, no_plots, go, go_reads}
 use Rattle.stand.specs.Table.{most, plus_lines, plus_plots}
 use Rattle.stand.specs.Bounds.{AtMost}
 use Rattle.stand.proofs.Cells.{at-most_up, lines-most}
-use Rattle.stand.proofs.Counting.{record_ranges, record_next, record_one, no_record, read-plots}
+use Rattle.stand.proofs.Counting.{lines_of_record, record_ranges, record_next, record_one, no_record, read-plots}
 use Rattle.stand.proofs.count.count_records.Goals as goal
 
-pub loop-lines-init : goal.loop-lines-init
-loop-lines-init c =
-    let a = c.args in
+-- the record that the cursor stands at lies in the payload
+lies : (s : List ℕ) (at last : ℕ) (rec : Record) (h : record_at at last (drop at s) ≡ Ok (Some rec)) → Bounds s at last 0 rec (holding at last (drop at s) rec h).stands
+lies s at last rec h = bounds s at last 0 rec (holding at last (drop at s) rec h).stands
+
+pub loop-record-init : goal.loop-record-init
+loop-record-init c =
+    let s = c.args.payload.now in
     let h = c.requires in
-    let s = a.payload.now in (
-      length s,
-      omega arith,
-      h.short,
-      omega arith,
-      omega arith,
-      ap (checked_of 0) (reading-short s h.short),
-      at-most_up most (most + 0 * 85) a.table.now (omega arith) h.cells,
-      (λ ps end q. (ps, (reading-reads s ps end q).1, omega arith, refl)),
-    )
+    record {
+      steps = length s;
+      enough = omega arith;
+      inside = omega arith;
+      few = omega arith;
+      same = ap (checked_of 0) (reading-short s h.short);
+      cells = h.cells;
+      left = λ ps end q. (ps, (reading-reads s ps end q).1, omega arith, refl);
+    }
+
+pub returns-in_err-record-clause-refused : goal.returns-in_err-record-clause-refused
+returns-in_err-record-clause-refused c =
+    let l = c.loop-record in
+    let s = c.args.payload.now in
+    let r = c.in_err-record.field-0.0 in
+    let n : length (drop l.c.at s) ≤ l.invariant.steps = omega (arith, l.invariant.enough, length-drop l.c.at s) in
+    let stopped = stops l.c.at l.c.last (drop l.c.at s) r l.invariant.steps n (sym c.in_err-record.ensures) in
+    let e : c.from_residual.result ≡ Err r = search rules in
+    rw e (checked_refused s r (l.invariant.same ∙ sym (checked_stopped l.c.last _ r stopped)))
+
+pub slice_bounds-count_lines-count : goal.slice_bounds-count_lines-count
+slice_bounds-count_lines-count c =
+    let b = lies c.args.payload.now c.loop-record.c.at c.loop-record.c.last c.in-Some.record (sym c.in_ok-record.ensures ∙ ap Ok c.in-Some.is) in
+    omega (arith, b.lines_at, b.past)
+
+pub slice_bounds-count_lines-start : goal.slice_bounds-count_lines-start
+slice_bounds-count_lines-start c =
+    let b = lies c.args.payload.now c.loop-record.c.at c.loop-record.c.last c.in-Some.record (sym c.in_ok-record.ensures ∙ ap Ok c.in-Some.is) in
+    omega (arith, b.lines_at, b.past)
+
+pub slice_bounds-count_lines-end : goal.slice_bounds-count_lines-end
+slice_bounds-count_lines-end c =
+    let b = lies c.args.payload.now c.loop-record.c.at c.loop-record.c.last c.in-Some.record (sym c.in_ok-record.ensures ∙ ap Ok c.in-Some.is) in
+    b.inside
 
 pub count_lines-requires : goal.count_lines-requires
 count_lines-requires c =
-    let l = c.loop-lines in
-    let i = l.invariant in
-    -- the record that the cursor stands at, all checks of which hold
-    let h = holding _ _ _ _ _ _ (sym c.in-Record.ensures) in
-    let b = bounds _ _ l.c.last 0 _ _ _ h.stands in
-    let z : l.c.at ≤ 4048 = omega (arith, i.2, i.3) in
-    record {
-      inside = b.lines_inside;
-      few = b.few;
-      ranges = record_ranges _ _ _ _ _ _ h;
-      rows_fit = c.requires.rows_fit;
-      cells = at-most_up (most + l.c.at * 85) (most + 1000000) l.table (omega arith) i.6;
-    }
-
-pub overflow_add-records : goal.overflow_add-records
-overflow_add-records c =
-    let i = c.loop-lines.invariant in
-    omega (arith, i.2, i.3, i.4)
-
-pub loop-lines-smaller : goal.loop-lines-smaller
-loop-lines-smaller c = omega (arith, bounds _ _ c.loop-lines.c.last 0 _ _ _ (holding _ _ _ _ _ _ (sym c.in-Record.ensures)).stands)
-
-pub loop-lines-preserved : goal.loop-lines-preserved
-loop-lines-preserved c =
-    let l = c.loop-lines in
-    let a = c.args in
-    let i = l.invariant in
-    let next = c.in-Record.next in
-    let count = c.in-Record.count in
-    let from = c.in-Record.lines in
-    let h = holding _ _ _ _ _ _ (sym c.in-Record.ensures) in
-    let b = bounds _ _ l.c.last 0 _ _ _ h.stands in
-    let past : l.c.at + (5 + count * 3) ≡ next.at = b.past in
-    let t = c.count_lines.ensures in
-    let m = lines-most a.rows.now count (drop from a.payload.now) (most + l.c.at * 85) l.table (record_ranges _ _ _ _ _ _ h) i.6 in
-    let r = holding-reads _ _ _ _ _ _ h i.0 i.1 in
-    let rest = read_from (i.0 - 1) next.at next.last (drop next.at a.payload.now) in (
-      i.0 - 1,
-      omega (arith, i.1),
-      i.2,
-      b.inside,
-      omega (arith, i.4),
-      i.5 ∙ ap (checked_of l.c.last) r.2 ∙ checked-onto l.c.last r.0 rest ∙ ap (λ (n : ℕ). checked_of n rest) r.1,
-      subst (AtMost (most + next.at * 85)) (sym t) (at-most_up (most + l.c.at * 85 + count * 255) (most + next.at * 85) (plus_lines a.rows.now (tallies count (drop from a.payload.now)) l.table) (omega arith) m),
-      (λ ps end q.
-          let o = i.7 ps end q in
-          let g = go _ _ _ _ _ _ _ h.stands i.1 o.0 end o.1 in (
-            g.rest,
-            go_reads _ _ _ _ _ _ _ h.stands i.1 o.0 end o.1,
-            omega (arith, o.2, record_one _ _ _ _ _ _ _ h.stands i.1 o.0 end o.1),
-            o.3 ∙ record_next _ _ _ _ _ _ _ h.stands i.1 o.0 end o.1 a.rows.now l.table ∙ ap (plus_plots a.rows.now g.rest) (sym t),
-          )),
-    )
-
-pub returns-in-End : goal.returns-in-End
-returns-in-End c =
-    let l = c.loop-lines in
-    let a = c.args in
-    let e = read-end _ l.c.last _ l.invariant.0 (ends _ _ _ (sym c.in-End.ensures)) in
-    record {
-      checked_value = checked-plots _ _ _ e ∙ sym l.invariant.5;
-      all_counted = λ p.
-          let o = l.invariant.7 p.0 p.1 p.2 in
-          let none = no_plots _ _ _ (sym o.1 ∙ e) in
-          let all = read-plots _ _ _ p.2 in
-          (omega (arith, o.2, ap length none, ap length all), sym (ap (λ (ps : List Plot). plus_plots a.rows.now ps a.table.now) all ∙ o.3 ∙ no_record a.rows.now _ l.table none));
-    }
-
-pub returns-in-Refused : goal.returns-in-Refused
-returns-in-Refused c =
-    let o = c.loop-lines in
+    let l = c.loop-record in
     let s = c.args.payload.now in
-    let l : length (drop o.c.at s) ≡ length s - o.c.at = length-drop o.c.at s in
-    let h : length s ≤ o.c.at + o.invariant.0 = o.invariant.1 in
-    let e = stops _ _ _ _ o.invariant.0 (omega arith) (sym c.in-Refused.ensures) in
+    let rec = c.in-Some.record in
+    -- the record that the cursor stands at, all checks of which hold
+    let h = holding l.c.at l.c.last (drop l.c.at s) rec (sym c.in_ok-record.ensures ∙ ap Ok c.in-Some.is) in
+    let b = bounds s l.c.at l.c.last 0 rec h.stands in
     record {
-      checked_value = checked_stopped _ _ _ e ∙ sym o.invariant.5;
-      all_counted = λ p. absurd (not_stopped _ _ _ _ e (o.invariant.7 p.0 p.1 p.2).1);
+      few = omega (arith, lines_long s l.c.at l.c.last 0 rec h.stands, b.few);
+      ranges = record_ranges s l.c.at l.c.last rec h;
+      cells = at-most_up (most + l.c.at * 85) (most + 1000000) l.table (omega (arith, l.invariant.inside, c.requires.short)) l.invariant.cells;
+    }
+
+pub loop-record-smaller : goal.loop-record-smaller
+loop-record-smaller c =
+    let b = lies c.args.payload.now c.loop-record.c.at c.loop-record.c.last c.in-Some.record (sym c.in_ok-record.ensures ∙ ap Ok c.in-Some.is) in
+    omega (arith, b.past, b.inside)
+
+pub loop-record-preserved : goal.loop-record-preserved
+loop-record-preserved c =
+    let l = c.loop-record in
+    let i = l.invariant in
+    let rows = c.args.rows.now.by_species in
+    let s = c.args.payload.now in
+    let at = l.c.at in
+    let rec = c.in-Some.record in
+    let h = holding at l.c.last (drop at s) rec (sym c.in_ok-record.ensures ∙ ap Ok c.in-Some.is) in
+    let b = bounds s at l.c.last 0 rec h.stands in
+    let past : at + (5 + rec.count * 3) ≡ rec.next.at = b.past in
+    let lines = lines_of_record s rec in
+    let n : length lines / 3 ≡ rec.count = omega (arith, lines_long s at l.c.last 0 rec h.stands) in
+    let t = c.count_lines.ensures in
+    let m = lines-most rows (length lines / 3) lines (most + at * 85) l.table (record_ranges s at l.c.last rec h) i.cells in
+    let r = holding-reads s at l.c.last rec h i.steps i.enough in
+    let rest = read_from (i.steps - 1) rec.next.at rec.next.last (drop rec.next.at s) in record {
+      steps = i.steps - 1;
+      enough = omega (arith, i.enough);
+      inside = b.inside;
+      few = omega (arith, i.few);
+      same = i.same ∙ ap (checked_of l.c.last) r.2 ∙ checked-onto l.c.last r.0 rest ∙ ap (λ (k : ℕ). checked_of k rest) r.1;
+      cells = subst (AtMost (most + rec.next.at * 85)) (sym t)
+          (at-most_up (most + at * 85 + length lines / 3 * 255) (most + rec.next.at * 85) (plus_lines rows (tallies (length lines / 3) lines) l.table) (omega arith) m);
+      left = λ ps end q.
+          let o = i.left ps end q in
+          let g = go s at l.c.last i.steps rec h.stands i.enough o.0 end o.1 in (
+            g.rest,
+            go_reads s at l.c.last i.steps rec h.stands i.enough o.0 end o.1,
+            omega (arith, o.2, record_one s at l.c.last i.steps rec h.stands i.enough o.0 end o.1),
+            o.3 ∙ record_next s at l.c.last i.steps rec h.stands i.enough o.0 end o.1 rows l.table ∙ ap (plus_plots rows g.rest) (sym t),
+          );
+    }
+
+pub returns-clause-accepted : goal.returns-clause-accepted
+returns-clause-accepted c =
+    let l = c.loop-record in
+    let i = l.invariant in
+    let rows = c.args.rows.now.by_species in
+    let s = c.args.payload.now in
+    let none : c.in_ok-record.field-0 ≡ None = search rules in
+    let e = read-end l.c.at l.c.last (drop l.c.at s) i.steps (ends l.c.at l.c.last (drop l.c.at s) (sym c.in_ok-record.ensures ∙ ap Ok none)) in
+    let p = checked_accepted s l.c (i.same ∙ sym (checked-plots l.c.last l.c.at _ e)) in
+    let o = i.left p.0 l.c.at p.1 in
+    let left = no_plots o.0 l.c.at l.c.at (sym o.1 ∙ e) in
+    let all = read-plots _ _ _ p.1 in
+    record {
+      reads = (p.0, l.c.at, p.1);
+      count = omega (arith, o.2, ap length left, ap length all);
+      table = sym (ap (λ (ps : List Plot). plus_plots rows ps c.args.table.now) all ∙ o.3 ∙ no_record rows _ l.table left);
     }

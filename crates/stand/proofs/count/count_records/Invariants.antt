@@ -17,10 +17,16 @@ Left rows s t records u f at last =
     (ps : List Plot) (end : ℕ) → reading s ≡ Plots ps end
     → (qs : List Plot) × (read_from f at last (drop at s) ≡ Plots qs end) × (length ps ≡ records + length qs) × (plus_plots rows ps t ≡ plus_plots rows qs u)
 
-abbrev pub invariant-loop-lines : goal.invariant-loop-lines
-invariant-loop-lines l = (f : ℕ) × (length l.payload ≤ l.c.at + f) × (length l.payload ≤ 4048) × (l.c.at ≤ length l.payload) × (l.records ≤ l.c.at)
-    × (checked_of 0 (reading l.payload) ≡ checked_of l.c.last (read_from f l.c.at l.c.last (drop l.c.at l.payload)))
-    × AtMost (most + l.c.at * 85) l.table × Left l.rows l.payload l.initial.table l.records l.table f l.c.at l.c.last
+abbrev pub invariant-loop-record : goal.invariant-loop-record
+invariant-loop-record l = record {
+  steps : ℕ;
+  enough : length l.payload ≤ l.c.at + steps;
+  inside : l.c.at ≤ length l.payload;
+  few : l.records ≤ l.c.at;
+  same : checked_of 0 (reading l.payload) ≡ checked_of l.c.last (read_from steps l.c.at l.c.last (drop l.c.at l.payload));
+  cells : AtMost (most + l.c.at * 85) l.table;
+  left : Left l.rows.by_species l.payload l.initial.table l.records l.table steps l.c.at l.c.last;
+}
 
-abbrev pub decreases-loop-lines : goal.decreases-loop-lines
-decreases-loop-lines l = length l.payload - l.c.at
+abbrev pub decreases-loop-record : goal.decreases-loop-record
+decreases-loop-record l = length l.payload - l.c.at

@@ -1,17 +1,18 @@
 use Prim.Native.Nat.{◌≤◌}
 use native.Mathlib.Omega.{arith}
-use Rattle.stand.proofs.Lists.{row_more, row-none}
+use mathlib.Core.Path.{◌≡◌}
+use Rattle.std.proofs.Common.{rules, tests}
+use Rattle.std.proofs.lemmas.Iterator.{YieldsList-from_slice}
+use Rattle.std.proofs.lemmas.Iterator.Adapters.{fits_from_length, at_most_from_yields_List}
+use Rattle.stand.specs.Table.{row_total}
+use Rattle.stand.proofs.Sums.{row_total-le}
 use Rattle.stand.proofs.count.row_total.Goals as goal
 
-pub loop-j-preserved : goal.loop-j-preserved
-loop-j-preserved c =
-    let l = c.loop-j in
-    let h : l.j ≤ 19 = omega arith in
-    let m = row_more c.args.row l.j (omega arith) in
-    (omega arith, l.invariant.1, omega arith, omega (arith, m))
+pub sum-requires-clause-fits : goal.sum-requires-clause-fits
+sum-requires-clause-fits c =
+    fits_from_length _ _ 20 _ (at_most_from_yields_List (YieldsList-from_slice c.args.row.now cc) (omega (arith, c.told-row))) c.map.ensures.closure (omega arith) (λ x r q k. search (rules, tests))
 
-pub returns : goal.returns
-returns c =
-    let l = c.loop-j in
-    let m = row-none c.args.row l.j (omega arith) in
-    (omega (arith, m), omega arith)
+pub returns-clause-bound : goal.returns-clause-bound
+returns-clause-bound c =
+    let v : c.sum.result ≡ row_total c.args.row.now = search rules in
+    omega (arith, c.told-row, row_total-le 4294967295 c.args.row.now (λ j. omega (arith, c.fits-row j)))

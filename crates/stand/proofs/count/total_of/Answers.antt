@@ -1,18 +1,9 @@
 use native.Mathlib.Omega.{arith}
-use Rattle.stand.proofs.Lists.{table_more, table_none}
+use Rattle.std.proofs.Common.{rules, tests}
+use Rattle.std.proofs.lemmas.Iterator.{YieldsList-from_slice}
+use Rattle.std.proofs.lemmas.Iterator.Adapters.{fits_from_length, at_most_from_yields_List}
 use Rattle.stand.proofs.count.total_of.Goals as goal
 
-pub overflow_add-sum : goal.overflow_add-sum
-overflow_add-sum c = omega (arith, c.row_total-sum.ensures.1)
-
-pub loop-i-preserved : goal.loop-i-preserved
-loop-i-preserved c =
-    let l = c.loop-i in
-    let m = table_more c.args.table l.i (omega arith) in
-    (omega arith, l.invariant.1, omega (arith, c.row_total-sum.ensures.1), omega (arith, m, c.row_total-sum.ensures.0))
-
-pub returns : goal.returns
-returns c =
-    let l = c.loop-i in
-    let m = table_none c.args.table l.i (omega arith) in
-    omega (arith, m)
+pub sum-requires-clause-fits : goal.sum-requires-clause-fits
+sum-requires-clause-fits c =
+    fits_from_length _ _ 17 _ (at_most_from_yields_List (YieldsList-from_slice c.args.table.now cc) (omega (arith, c.told-table))) c.map.ensures.closure (omega arith) (λ x r q k. search (rules, tests))
