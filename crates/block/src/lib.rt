@@ -23,7 +23,7 @@ mod lay;
 mod numbers;
 mod search;
 
-pub use numbers::{Correction, FillRefusal, Refusal};
+pub use numbers::{Correction, FillRefusal, Refusal, Verdict};
 
 // ---- writing
 
@@ -64,7 +64,7 @@ pub fn check(p: Profile, read: &[u8]) -> Result<bool, profile::Refusal>
 /// What a look finds: the verdict, and the shifted remainder at its start, from which the fill of its run is made. A refusal has start 0.
 #[derive(Clone, Copy)]
 pub struct Judgement {
-    pub verdict: Result<Correction, Refusal>,
+    pub verdict: Verdict,
     pub error: Register,
 }
 
@@ -77,7 +77,7 @@ fn run_is_sparse(p: Profile, size: usize, error: Register) -> bool
 
 // The verdict on a block that is not clean, from what the search has found.
 #[tactic(auto, unfolding(crate::specs::Found::decided_by))]
-fn decided(p: Profile, found: Found) -> Result<Correction, Refusal>
+fn decided(p: Profile, found: Found) -> Verdict
     ensures { result ≡ decided_by p found }
 {
     let is_torn = p.limit < found.size;
@@ -133,7 +133,7 @@ pub fn judge(p: Profile, read: &[u8]) -> Judgement
 }
 
 /// Looks at a block of n cells: the verdict that correcting gives. Nothing is written.
-pub fn look(p: Profile, read: &[u8]) -> Result<Correction, Refusal>
+pub fn look(p: Profile, read: &[u8]) -> Verdict
     ensures { result ≡ look_answer p read.now }
 {
     judge(p, read).verdict
@@ -198,7 +198,7 @@ pub fn fill(
 
 /// Corrects a block: n cells read, and the codeword of the shortest run written to `out`, n bytes. It is the look and, where that accepts, the fill of
 /// its run, by the shifted remainder that the look has. Refused blocks leave `out` as it was.
-pub fn correct(p: Profile, read: &[u8], out: &mut [u8]) -> Result<Correction, Refusal>
+pub fn correct(p: Profile, read: &[u8], out: &mut [u8]) -> Verdict
     ensures value { result ≡ correct_answer p read.now out.old }
     ensures out_after { out.new ≡ correct_leaves p read.now out.old }
 {

@@ -34,6 +34,9 @@ pub enum FillRefusal {
     NoCodeword,
 }
 
+/// The verdict on a block, in every mode: how it was corrected, or why it is refused.
+pub type Verdict = Result<Correction, Refusal>;
+
 impl Correction {
     /// The start of the run; 0 where it is none.
     pub fn start(self) -> usize

@@ -74,7 +74,7 @@ pub extern "C" fn tishwabe_table_total(
     ensures value { result ≡ total_number (total_answer table.now (tract_of species.now payloads records)) }
     ensures total_after { total.new ≡ total_trees (total_answer table.now (tract_of species.now payloads records)) }
 {
-    let answer = stand::total(table, &Tract::new(species, payloads, records));
+    let answer = stand::total(*table, Tract::new(species, payloads, records));
     *total = answer.unwrap_or(0);
     usize::from(answer.number())
 }
@@ -93,7 +93,7 @@ pub extern "C" fn tishwabe_trees_per_plot(
     ensures quotient_after { quotient.new ≡ per_plot_quotient (per_plot_answer table.now (tract_of species.now payloads records)) }
     ensures remainder_after { remainder.new ≡ per_plot_remainder (per_plot_answer table.now (tract_of species.now payloads records)) }
 {
-    let answer = stand::trees_per_plot(table, &Tract::new(species, payloads, records));
+    let answer = stand::trees_per_plot(*table, Tract::new(species, payloads, records));
     *quotient = answer.map_or(0, |per_plot| per_plot.quotient);
     *remainder = answer.map_or(0, |per_plot| per_plot.remainder);
     usize::from(answer.number())

@@ -37,7 +37,7 @@ profile_is input n r b limit depth en er eb el ed = rw (en, er, eb, el, ed)
 pub number_small : (r : Refusal) → refusal_number r < 256
 number_small BadProfile = omega arith
 number_small WrongLength = omega arith
-number_small (Block n w) = omega (arith, number-most (Err w))
+number_small (Block n w) = omega (arith, number-most w)
 
 module _ (p : Profile) (sheet scratch payload : List ℕ) (es : scratch ≡ scratch_buffer p) (ep : payload ≡ payload_buffer p) where
   pub text_refused : (r : Refusal) → Err r ≡ read_answer Burst p sheet scratch payload → refusal_text (refusal_number r) (refusal_place r) ≡ sheet_text p sheet

@@ -20,7 +20,7 @@ mod lower;
 pub use byte_multiples::ByteMultiples;
 
 /// Eight words of eight cells; the lowest cell is the lowest byte of w0.
-// Eight fields and no array: that an array's list has eight words would be a ghost field here, and Clone and Copy are not derived over one.
+// Eight fields and no array: that an array's list has eight words would be a ghost field here, which whatever makes a register would have to prove.
 #[derive(Clone, Copy)]
 pub struct Register {
     pub w0: u64,

@@ -42,7 +42,7 @@ module _ (mode : Mode) (p : Profile) (sheet : List ℕ) where
   unfolding answer_from
   answer_on left d changed t = not-refused (block_verdict mode p sheet d) d (answer_from mode p sheet left (suc d) (changed + changed_at mode p sheet d)) t
 
-  pub answer_stop : (left d changed : ℕ) (e : Refusal) → block_verdict mode p sheet d ≡ Err e → answer_from mode p sheet (suc left) d changed ≡ Err (Block d e)
+  pub answer_stop : (left d changed : ℕ) (e : Refusal) → block_verdict mode p sheet d ≡ Err e → answer_from mode p sheet (suc left) d changed ≡ Err (Block d (Err e))
   unfolding answer_from
   answer_stop left d changed e q = rw q
 
@@ -63,7 +63,7 @@ module _ (mode : Mode) (p : Profile) (sheet : List ℕ) where
       (ap₂ (λ (a b : ℕ). a + b) (ap (changed_at mode p sheet) (omega arith)) (same_sum left _ _ (λ i l. ap (changed_at mode p sheet) (omega arith)))))
 
   first-from : (i left d changed : ℕ) (r : Refusal) → i < left → ((j : ℕ) → j < i → fine (d + j) ≡ true) → block_verdict mode p sheet (d + i) ≡ Err r
-      → answer_from mode p sheet left d changed ≡ Err (Block (d + i) r)
+      → answer_from mode p sheet left d changed ≡ Err (Block (d + i) (Err r))
   first-from i zero d changed r l h t = absurd (not-suc-le-zero l)
   first-from zero (suc left) d changed r l h t =
       let e : d + 0 ≡ d = omega arith in
@@ -82,7 +82,7 @@ module _ (mode : Mode) (p : Profile) (sheet : List ℕ) where
       all_from p.depth 0 0 (λ i l. ap fine (omega arith) ∙ h i l)
       ∙ ap (λ (n : ℕ). Ok n) (z ∙ same_sum p.depth _ _ (λ i l. ap (changed_at mode p sheet) (omega arith)))
 
-  pub first-refused : (d : ℕ) (r : Refusal) → d < p.depth → ((e : ℕ) → e < d → fine e ≡ true) → block_verdict mode p sheet d ≡ Err r → sheet_answer mode p sheet ≡ Err (Block d r)
+  pub first-refused : (d : ℕ) (r : Refusal) → d < p.depth → ((e : ℕ) → e < d → fine e ≡ true) → block_verdict mode p sheet d ≡ Err r → sheet_answer mode p sheet ≡ Err (Block d (Err r))
   unfolding sheet_answer
   first-refused d r l h t =
       let z : 0 + d ≡ d = omega arith in

@@ -45,7 +45,7 @@ pub changed-small : (size : ℕ) → changed_by size ≤ 1
 changed-small size = ⊎_elim (λ e. rw e (omega arith)) (λ e. rw e (omega arith)) (true_or_false (eqb size 0))
 
 -- what a block's verdict was, where it is passed on as the sheet's
-refused-is : (d : ℕ) (v : Verdict) (e : Refusal) → Err e ≡ refused_at d v → (r : block.Refusal) × (v ≡ Err r) × (e ≡ Block d r)
+refused-is : (d : ℕ) (v : Verdict) (e : Refusal) → Err e ≡ refused_at d v → (r : block.Refusal) × (v ≡ Err r) × (e ≡ Block d (Err r))
 refused-is d (Ok c) e q = absurd (cc)
 refused-is d (Err r) e q = (r, refl, cc)
 
@@ -73,7 +73,7 @@ module _ (mode : Mode) (p : Profile) (sheet : List ℕ) where
     pub turn_stop : (v : Verdict) → v ≡ block_verdict mode p sheet d → (e : Refusal) → Err e ≡ refused_at d v → Err e ≡ sheet_answer mode p sheet
     turn_stop v j e t =
         let r = refused-is d v e t in
-        let a : answer_from mode p sheet (p.depth - d) d changed ≡ Err (Block d r.0) = rw left (answer_stop mode p sheet (p.depth - (d + 1)) d changed r.0 (sym j ∙ r.1)) in
+        let a : answer_from mode p sheet (p.depth - d) d changed ≡ Err (Block d (Err r.0)) = rw left (answer_stop mode p sheet (p.depth - (d + 1)) d changed r.0 (sym j ∙ r.1)) in
         ap (λ (x : Refusal). Err x) r.2 ∙ sym (q ∙ a)
 
   pub turn_end : (d changed : ℕ) → d ≡ p.depth → sheet_answer mode p sheet ≡ answer_from mode p sheet (p.depth - d) d changed → Ok changed ≡ sheet_answer mode p sheet

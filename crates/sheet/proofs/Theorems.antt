@@ -133,7 +133,7 @@ module _ (mode : Mode) (p : Profile) (sheet : List ℕ) (v : InRange p) (h : Byt
   lowest_answer d number o =
       let q = refused-number d number o.refused in
       let r = refused-is d number o.refused in
-      let a : sheet_answer mode p sheet ≡ Err (Block d r.0) = first-refused mode p sheet d r.0 o.below (λ e l. (word-fine e (o.before e l).0 (o.before e l).1).0) r.1 in
+      let a : sheet_answer mode p sheet ≡ Err (Block d (Err r.0)) = first-refused mode p sheet d r.0 o.below (λ e l. (word-fine e (o.before e l).0 (o.before e l).1).0) r.1 in
       (ap reading_number a ∙ ap verdict_number (sym r.1) ∙ q.0, ap reading_place a)
 
   module _ (words : ℕ → List ℕ) (a : AllWords mode p sheet words) where

@@ -5,7 +5,7 @@ use Rattle.std.specs.Prelude.{ℕ, Result}
 use Rattle.answers.specs.Numbers.{or_zero, value_or_zero}
 use Rattle.profile.specs.declared.refusals.Refusal.{Refusal as EarlyRefusal}
 use Rattle.profile.specs.declared.refusals.Refusal.TheVariants as early
-use Rattle.block.specs.Numbers.{correct_refusal_number}
+use Rattle.block.specs.Numbers.{verdict_number}
 use Rattle.sheet.specs.declared.Refusal.{Refusal}
 use Rattle.sheet.specs.declared.Refusal.TheVariants.{BadProfile, WrongLength, Block}
 
@@ -22,12 +22,12 @@ read_early early.WrongLength = WrongLength
 abbrev pub refusal_number : Refusal → ℕ
 refusal_number BadProfile = 1
 refusal_number WrongLength = 2
-refusal_number (Block number refusal) = correct_refusal_number refusal
+refusal_number (Block number verdict) = verdict_number verdict
 
 abbrev pub refusal_place : Refusal → ℕ
 refusal_place BadProfile = 0
 refusal_place WrongLength = 0
-refusal_place (Block number refusal) = number
+refusal_place (Block number verdict) = number
 
 -- the refusal's number, or 0 for an accepted sheet
 abbrev pub reading_number : Reading → ℕ

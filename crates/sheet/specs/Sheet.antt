@@ -76,7 +76,7 @@ module _ (mode : Mode) (p : Profile) (sheet : List ℕ) where
 -- the refusal of block d is the sheet's, with its number; where it has a codeword the rest answers
 abbrev pub unless_refused : Verdict → ℕ → Reading → Reading
 unless_refused (Ok correction) d rest = rest
-unless_refused (Err refusal) d rest = Err (Block d refusal)
+unless_refused (Err refusal) d rest = Err (Block d (Err refusal))
 
 -- two lists are not the same
 unfoldable pub differ : List ℕ → List ℕ → Bool

@@ -60,7 +60,7 @@ pub record JudgedAs (mode : Mode) (p : Profile) (y : List ℕ) (z : Judgement) :
 -- the verdict on a block, as the sheet's answer has it
 abbrev pub refused_at : ℕ → Verdict → Result Correction Refusal
 refused_at number (Ok correction) = Ok correction
-refused_at number (Err refusal) = Err (Block number refusal)
+refused_at number (Err refusal) = Err (Block number (Err refusal))
 
 -- the error of block d is written down where its run is not empty and it is one of the first seven
 unfoldable pub with_error : List Register → ℕ → Run → Register → List Register

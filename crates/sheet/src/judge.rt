@@ -8,7 +8,7 @@ ghost use Rattle.sheet.specs.Steps.{Room, JudgedAs, JudgedAll, refused_at};
 use crate::found::{Findings, Run};
 use crate::reader::Reader;
 use crate::{Mode, Refusal, gather};
-use block::{Correction, Judgement};
+use block::{Correction, Judgement, Verdict};
 use profile::Profile;
 
 // A block in spot mode. Its codeword goes to `word` and is not kept.
@@ -35,14 +35,11 @@ fn judge_in(mode: Mode, p: Profile, read: &[u8], word: &mut [u8]) -> Judgement
     }
 }
 
-// A block's refusal is the sheet's, with the block's number.
-fn of_block(
-    number: usize,
-    verdict: Result<Correction, block::Refusal>,
-) -> Result<Correction, Refusal>
+// A block's verdict is the sheet's refusal, with the block's number, where it is none of a correction.
+fn of_block(number: usize, verdict: Verdict) -> Result<Correction, Refusal>
     ensures { result ≡ refused_at number verdict }
 {
-    verdict.map_err(|refusal| Refusal::Block { number, refusal })
+    verdict.map_err(|_| Refusal::Block { number, verdict })
 }
 
 impl Reader<'_> {

@@ -27,14 +27,14 @@ pub enum Mode {
     Spots,
 }
 
-/// Why a sheet is refused. Document 01 calls the first two misprint and wrong frame; the third has the block's number and its own refusal.
+/// Why a sheet is refused. Document 01 calls the first two misprint and wrong frame; the third has the block's number and its verdict.
 #[derive(Clone, Copy, Debug, PartialEq, Eq)]
 pub enum Refusal {
     BadProfile,
     WrongLength,
     Block {
         number: usize,
-        refusal: block::Refusal,
+        verdict: block::Verdict,
     },
 }
 

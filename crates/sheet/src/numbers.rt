@@ -26,14 +26,14 @@ impl Numbered for Refusal {
         match self {
             Refusal::BadProfile => 1,
             Refusal::WrongLength => 2,
-            Refusal::Block { number: _, refusal } => refusal.number(),
+            Refusal::Block { number: _, verdict } => verdict.number(),
         }
     }
 
     fn place(&self) -> usize {
         match self {
             Refusal::BadProfile | Refusal::WrongLength => 0,
-            Refusal::Block { number, refusal: _ } => *number,
+            Refusal::Block { number, verdict: _ } => *number,
         }
     }
 }

@@ -12,7 +12,7 @@ ghost use Rattle.block.specs.Block.{correct_fits, read_remainder};
 ghost use Rattle.spots.specs.Spots.{read_syndromes, spot_answer, spot_leaves};
 ghost use Rattle.spots.specs.Steps.{SpotsInto};
 
-use block::{Correction, Refusal};
+use block::{Correction, Refusal, Verdict};
 use locator::Errors;
 use profile::Profile;
 use register::Register;
@@ -29,12 +29,7 @@ fn fill_located(b: usize, syndromes: &[u8], errors: Errors, out: &mut [u8])
 }
 
 // A block with its syndromes: its codeword is written where one is near.
-fn correct_located(
-    p: Profile,
-    syndromes: &[u8],
-    read: &[u8],
-    out: &mut [u8],
-) -> Result<Correction, Refusal>
+fn correct_located(p: Profile, syndromes: &[u8], read: &[u8], out: &mut [u8]) -> Verdict
     requires in_range { InRange p }
     requires read_len { (length read.now ≡ p.n) × (length out.old ≡ p.n) }
     requires syndromes_value { syndromes.now ≡ read_syndromes p read.now }
@@ -54,12 +49,7 @@ fn correct_located(
 }
 
 // A block with its remainder.
-fn correct_cells(
-    p: Profile,
-    rest: Register,
-    read: &[u8],
-    out: &mut [u8],
-) -> Result<Correction, Refusal>
+fn correct_cells(p: Profile, rest: Register, read: &[u8], out: &mut [u8]) -> Verdict
     requires in_range { InRange p }
     requires read_len { (length read.now ≡ p.n) × (length out.old ≡ p.n) }
     requires rest_value { cells rest ≡ read_remainder p read.now }
@@ -81,7 +71,7 @@ fn fits(p: Profile, read: &[u8], out: &[u8]) -> bool
 
 /// Corrects a block in spot mode: n cells read, and the nearest codeword written to `out`, n bytes, where one differs in at most h cells. Refused blocks
 /// leave `out` as it was.
-pub fn correct(p: Profile, read: &[u8], out: &mut [u8]) -> Result<Correction, Refusal>
+pub fn correct(p: Profile, read: &[u8], out: &mut [u8]) -> Verdict
     ensures value { result ≡ spot_answer p read.now out.old }
     ensures out_after { out.new ≡ spot_leaves p read.now out.old }
 {

@@ -65,8 +65,8 @@ fn row_holds(row: &[u32; 20]) -> bool
 }
 
 // No cell is above the limit.
-pub(crate) fn cells_hold(table: &[[u32; 20]; 17]) -> bool
-    ensures { result ≡ cells_hold table.now }
+pub(crate) fn cells_hold(table: [[u32; 20]; 17]) -> bool
+    ensures { result ≡ cells_hold table }
 {
     table.iter().all(row_holds)
 }

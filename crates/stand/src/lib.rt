@@ -90,21 +90,21 @@ pub fn begin(species: &[u8]) -> (Tract, Result<(), TableRefusal>)
 }
 
 // No cell and no counter that is handed in is above the limit.
-fn limits_hold(table: &[[u32; 20]; 17], tract: &Tract) -> bool
-    ensures { result ≡ limits_hold table.now tract.now }
+fn limits_hold(table: [[u32; 20]; 17], tract: Tract) -> bool
+    ensures { result ≡ limits_hold table tract }
 {
     tract.payloads <= MOST && tract.records <= MOST && cells_hold(table)
 }
 
 // What adding a payload of `size` bytes answers before the payload itself is read.
 #[tactic(auto, unfolding(crate::specs::Answers::judged))]
-fn judge(table: &[[u32; 20]; 17], tract: &Tract, size: usize) -> Result<(), TableRefusal>
-    ensures { result ≡ judged table.now tract.now size (Ok tt) }
+fn judge(table: [[u32; 20]; 17], tract: Tract, size: usize) -> Result<(), TableRefusal>
+    ensures { result ≡ judged table tract size (Ok tt) }
 {
     if plot::LONGEST < size {
         return Err(TableRefusal::Payload(plot::Refusal::WrongLength));
     }
-    if !list_holds(tract) {
+    if !list_holds(&tract) {
         return Err(TableRefusal::SpeciesList);
     }
     if MOST_PAYLOADS <= tract.payloads {
@@ -126,9 +126,9 @@ pub fn add(
     ensures table_after { table.new ≡ add_table table.old tract.old payload.now }
     ensures tract_after { tract.new ≡ add_tract table.old tract.old payload.now }
 {
-    judge(table, tract, payload.len())?;
-    let rows = Rows::of(tract);
     let mut counts = *table;
+    judge(counts, *tract, payload.len())?;
+    let rows = Rows::of(tract);
     let records = count_records(&mut counts, &rows, payload)?;
     *table = counts;
     tract.payloads += 1;
@@ -138,22 +138,22 @@ pub fn add(
 
 /// The total: the sum of the cells.
 #[tactic(auto, unfolding(crate::specs::Answers::total_answer))]
-pub fn total(table: &[[u32; 20]; 17], tract: &Tract) -> Result<u64, TableRefusal>
-    ensures { result ≡ total_answer table.now tract.now }
+pub fn total(table: [[u32; 20]; 17], tract: Tract) -> Result<u64, TableRefusal>
+    ensures { result ≡ total_answer table tract }
 {
-    if !list_holds(tract) {
+    if !list_holds(&tract) {
         return Err(TableRefusal::SpeciesList);
     }
     if !limits_hold(table, tract) {
         return Err(TableRefusal::TractFull);
     }
-    Ok(total_of(table))
+    Ok(total_of(&table))
 }
 
 /// Trees per plot: the total over the number of records added.
 #[tactic(auto, unfolding(crate::specs::Answers::per_plot_of))]
-pub fn trees_per_plot(table: &[[u32; 20]; 17], tract: &Tract) -> Result<PerPlot, TableRefusal>
-    ensures { result ≡ per_plot_answer table.now tract.now }
+pub fn trees_per_plot(table: [[u32; 20]; 17], tract: Tract) -> Result<PerPlot, TableRefusal>
+    ensures { result ≡ per_plot_answer table tract }
 {
     let trees = total(table, tract)?;
     if tract.records == 0 {

@@ -39,13 +39,13 @@ fn print_table(rt: &impl Print, table: &[[u32; 20]; 17], tract: &Tract) -> io::R
     for (row, cells) in table.iter().enumerate() {
         print_row(rt, row, cells)?;
     }
-    let total = stand::total(table, tract);
+    let total = stand::total(*table, *tract);
     println!(rt;
         "total: answer {}, trees {}",
         total.number(),
         total.unwrap_or(0)
     )?;
-    let per_plot = stand::trees_per_plot(table, tract);
+    let per_plot = stand::trees_per_plot(*table, *tract);
     let quotient = per_plot.map_or(0, |p| p.quotient);
     let remainder = per_plot.map_or(0, |p| p.remainder);
     println!(rt;

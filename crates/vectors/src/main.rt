@@ -7,8 +7,10 @@
 
 #![tactic(auto)]
 
+ghost use Rattle.std.specs.Prelude.{◌≤◌, length, IfOk};
+
 use answers::Numbered;
-use block::Correction;
+use block::{Correction, Verdict};
 use plot::LineAtFault;
 use profile::Profile;
 use sheet::Mode;
@@ -20,12 +22,20 @@ mod tables;
 
 // ---- reading
 
-// Reads until the buffer is full or the input ends.
-fn read_full(rt: &impl Input, buf: &mut [u8]) -> io::Result<()> {
-    for (place, byte) in buf.iter_mut().zip(rt.reader().bytes()) {
-        *place = byte?;
+// Reads until the buffer is full or the input ends: how many bytes were put at its start. Not by `bytes`, which asks the system for each byte by itself.
+fn read_full(rt: &impl Input, buf: &mut [u8]) -> io::Result<usize>
+    ensures { IfOk result (λ n. n ≤ length buf.new) }
+{
+    let mut input = rt.reader();
+    let mut done = 0;
+    while done < buf.len() {
+        let n = input.read(&mut buf[done..])?;
+        if n == 0 {
+            break;
+        }
+        done += n;
     }
-    Ok(())
+    Ok(done)
 }
 
 // The next byte, if the input has not ended.
@@ -92,7 +102,7 @@ fn cells(rt: &impl Print, s: &[u8]) -> io::Result<()> {
 }
 
 // The number of an answer in burst mode, and its run.
-fn run(rt: &impl Print, answer: Result<Correction, block::Refusal>) -> io::Result<()> {
+fn run(rt: &impl Print, answer: Verdict) -> io::Result<()> {
     let start = answer.map_or(0, Correction::start);
     let length = answer.map_or(0, Correction::length);
     print!(rt; "{} {start} {length}", answer.number())

@@ -94,9 +94,9 @@ pub(crate) fn stand_table(rt: &(impl Input + Print)) -> io::Result<()> {
     let mut tract = Tract::new(species, payloads, records);
     add_payloads(rt, &mut table, &mut tract)?;
     print!(rt; " {} {}", tract.payloads, tract.records)?;
-    let total = stand::total(&table, &tract);
+    let total = stand::total(table, tract);
     print!(rt; " {} {}", total.number(), total.unwrap_or(0))?;
-    let per_plot = stand::trees_per_plot(&table, &tract);
+    let per_plot = stand::trees_per_plot(table, tract);
     let quotient = per_plot.map_or(0, |p| p.quotient);
     let remainder = per_plot.map_or(0, |p| p.remainder);
     print!(rt; " {} {quotient} {remainder}", per_plot.number())?;

@@ -4,12 +4,15 @@
 
 #![tactic(auto)]
 
-ghost use Rattle.std.specs.Prelude.{◌≡◌, List, [], ◌∷◌, ℕ, ◌*◌, ◌^◌, ◌<◌, ◌≤◌, drop};
+ghost use Rattle.std.specs.Prelude.{◌≡◌, List, [], ◌∷◌, ℕ, ◌*◌, ◌^◌, ◌<◌, ◌≤◌, ⊤, drop};
+ghost use Rattle.code.specs.Code.{nonzero};
 ghost use Rattle.code.specs.Poly.{padd, pscale};
 ghost use Rattle.code.specs.Search.{extent};
 ghost use Rattle.words.specs.Word.{byte, bytes_from};
 ghost use Rattle.words.specs.Doubles.{Doubled, bits_at};
 ghost use Rattle.words.specs.Cells.{shift_up, shift_down, pad_to};
+
+use std::alloc::AllocError;
 
 /// The cell as the highest of a word.
 pub fn at_top(c: u8) -> u64
@@ -47,6 +50,16 @@ pub fn word_down(w: u64, above: u64) -> u64
     ensures { bytes_from 8 0 result ≡ shift_down (bytes_from 8 0 w) (byte above 0) }
 {
     (w >> 8) ^ (above << 56)
+}
+
+/// 1 for a cell that is not zero, and 0 for one that is.
+pub fn nonzero(c: u8) -> usize
+    ensures { result ≡ nonzero c }
+{
+    if c != 0 {
+        return 1;
+    }
+    0
 }
 
 /// Eight cells of a slice as a word, from cell k on, with zeros where it has fewer.
@@ -105,7 +118,6 @@ impl Doubling for u64 {
 }
 
 /// a, 2 a, 4 a, .., 128 a: each is twice the one before.
-#[derive(Drop)]
 pub struct Doubles<T: Doubling> {
     pub c0: T,
     pub c1: T,
@@ -117,6 +129,18 @@ pub struct Doubles<T: Doubling> {
     pub c7: T,
     pub ghost doubled: { Doubled T.cells c0 c1 c2 c3 c4 c5 c6 c7 },
 }
+
+impl<T: Doubling> Clone for Doubles<T> {
+    ghost is_clone = { λ x y. y ≡ x };
+
+    ghost is_infallible = { λ _. ⊤ };
+
+    fn clone(&self) -> Result<Doubles<T>, AllocError> {
+        Ok(*self)
+    }
+}
+
+impl<T: Doubling> Copy for Doubles<T> {}
 
 impl<T: Doubling> Doubles<T> {
     /// The doubles of a.

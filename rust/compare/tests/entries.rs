@@ -1,4 +1,4 @@
-//! Every public function of a library crate has a contract that says something (`ensures`) and asks for nothing (`requires`). With the gate's rule that each
+//! Every public function of a library crate, and every method of a public trait, has a contract that says something (`ensures`) and asks for nothing (`requires`). With the gate's rule that each
 //! function is proved, so that it returns on every input that its `requires` allows, this is why every entry point ends with a result on every input.
 
 use std::fs;
@@ -32,6 +32,27 @@ fn heads(text: &str) -> Vec<Vec<&str>> {
     starts.map(head).collect()
 }
 
+/// The lines of each method that a public trait declares, from its name to the end of its clauses.
+fn trait_heads(text: &str) -> Vec<Vec<&str>> {
+    let lines: Vec<&str> = text.lines().collect();
+    let mut found = Vec::new();
+    for start in (0..lines.len()).filter(|&i| lines[i].starts_with("pub trait ")) {
+        let body: Vec<&str> = lines[start..]
+            .iter()
+            .take_while(|line| **line != "}")
+            .map(|line| line.trim())
+            .collect();
+        for i in (0..body.len()).filter(|&i| body[i].starts_with("fn ")) {
+            let length = body[i..]
+                .iter()
+                .position(|line| line.ends_with(';'))
+                .expect("an end of the method");
+            found.push(body[i..=i + length].to_vec());
+        }
+    }
+    found
+}
+
 #[test]
 fn public_functions_ask_for_nothing() {
     let crates = Path::new(env!("CARGO_MANIFEST_DIR")).join("../../crates");
@@ -42,7 +63,8 @@ fn public_functions_ask_for_nothing() {
             continue;
         }
         for path in sources(&source) {
-            for head in heads(&fs::read_to_string(&path).expect("a source file")) {
+            let text = fs::read_to_string(&path).expect("a source file");
+            for head in heads(&text).into_iter().chain(trait_heads(&text)) {
                 let place = format!("{}: {}", path.display(), head[0]);
                 assert!(
                     !head.iter().any(|line| line.starts_with("requires")),
